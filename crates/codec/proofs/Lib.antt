@@ -1,0 +1,4 @@
+pub mod Rounds
+pub mod Halves
+pub mod WindowOf
+pub mod SealedOf

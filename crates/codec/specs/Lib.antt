@@ -1,0 +1,5 @@
+pub mod Bytes
+pub mod Fault
+pub mod Kept
+pub mod Windows
+pub mod Seals

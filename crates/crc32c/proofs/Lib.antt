@@ -1,0 +1,4 @@
+pub mod Table
+pub mod Linear
+pub mod Joined
+pub mod Fits
