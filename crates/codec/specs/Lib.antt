@@ -1,5 +1,6 @@
 pub mod Bytes
-pub mod Fault
+pub mod Faults
+pub mod Kinds
 pub mod Kept
 pub mod Windows
 pub mod Seals

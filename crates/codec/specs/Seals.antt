@@ -9,13 +9,13 @@ use Rattle.std.specs.declared.option.Option.{Option}
 use Rattle.std.specs.declared.option.Option.the-variants.{Some, None}
 use Rattle.std.specs.declared.result.Result.{Result}
 use Rattle.std.specs.declared.result.Result.the-variants.{Ok, Err}
-use Rattle.codec.specs.declared.fault.Fault.{Fault}
-use Rattle.codec.specs.declared.fault.Fault.the-variants.{NoValue}
+use Rattle.codec.specs.declared.fault.KindFault.{KindFault}
+use Rattle.codec.specs.declared.fault.KindFault.the-variants.{NoValue}
 use Rattle.codec.specs.declared.sealed.Sealed.{Sealed}
 use Rattle.codec.specs.Kept.{sealed-most, sealable, padded, padded-keeps}
 
 -- may these bytes be sealed
-abbrev pub sealed-check : List ℕ → Result (Unit {0}) Fault
+abbrev pub sealed-check : List ℕ → Result (Unit {0}) KindFault
 sealed-check bs = cond (leb (length bs) sealed-most) (Ok tt) (Err NoValue)
 
 -- the bytes as they are

@@ -9,14 +9,14 @@ use Rattle.std.specs.declared.option.Option.{Option}
 use Rattle.std.specs.declared.option.Option.the-variants.{Some, None}
 use Rattle.std.specs.declared.result.Result.{Result}
 use Rattle.std.specs.declared.result.Result.the-variants.{Ok, Err}
-use Rattle.codec.specs.declared.fault.Fault.{Fault}
-use Rattle.codec.specs.declared.fault.Fault.the-variants.{NoValue}
+use Rattle.codec.specs.declared.fault.KindFault.{KindFault}
+use Rattle.codec.specs.declared.fault.KindFault.the-variants.{NoValue}
 use Rattle.codec.specs.declared.window.Window.{Window}
 use Rattle.codec.specs.Bytes.{be, number}
 use Rattle.codec.specs.Kept.{in-order}
 
 -- may a window have these days
-abbrev pub window-check : ℕ → ℕ → Result (Unit {0}) Fault
+abbrev pub window-check : ℕ → ℕ → Result (Unit {0}) KindFault
 window-check first end = cond (ltb first end) (Ok tt) (Err NoValue)
 
 -- 16 bytes: the first day as 8, then the end day as 8

@@ -1,8 +1,8 @@
 // A key and a value of each kind there and back, and what is refused.
-use crate::Fault;
 use crate::Fingerprint;
 use crate::FingerprintKey;
 use crate::Key;
+use crate::KindFault;
 use crate::Sealed;
 use crate::SealedValue;
 use crate::Serial;
@@ -10,8 +10,8 @@ use crate::SerialKey;
 use crate::Value;
 use crate::Window;
 use crate::WindowValue;
-use crate::fault::FaultDebug;
-use crate::fault::FaultPartialEq;
+use crate::fault::KindFaultDebug;
+use crate::fault::KindFaultPartialEq;
 use crate::put_u8;
 use crate::put_u32;
 use crate::put_u64;
@@ -59,9 +59,9 @@ fn keys() -> Result<(), Fail> {
 
 #[test]
 fn windows() -> Result<(), Fail> {
-    check_eq(Window::check(5, 5), Err(Fault::NoValue))?;
-    check_eq(Window::check(6, 5), Err(Fault::NoValue))?;
-    check_eq(Fault::NoValue.number(), 18)?;
+    check_eq(Window::check(5, 5), Err(KindFault::NoValue))?;
+    check_eq(Window::check(6, 5), Err(KindFault::NoValue))?;
+    check_eq(KindFault::NoValue.number(), 18)?;
     Window::check(5, u64::MAX)?;
     let window = Window::new(5, u64::MAX);
     let mut room = [0u8; 16];
@@ -106,7 +106,7 @@ fn seals_back(bytes: &[u8]) -> Result<(), Fail> {
 #[test]
 fn seals() -> Result<(), Fail> {
     let bytes = [7u8; 513];
-    check_eq(Sealed::check(&bytes), Err(Fault::NoValue))?;
+    check_eq(Sealed::check(&bytes), Err(KindFault::NoValue))?;
     check(SealedValue::decode(&bytes).is_none())?;
     for len in 0..513usize {
         seals_back(&bytes[0..len])?;

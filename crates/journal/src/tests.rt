@@ -50,6 +50,72 @@ fn differs(log: &[u8]) -> Option<[bool; 5]> {
     }
 }
 
+// The example of docs/FORMATS.md.
+#[test]
+fn laid_out() -> Result<(), Fail> {
+    let bytes = [
+        0x46,
+        0x5a,
+        0,
+        0,
+        0,
+        0,
+        0,
+        0,
+        0,
+        3,
+        0,
+        0,
+        0,
+        0,
+        0,
+        0,
+        0,
+        7,
+        0xff,
+        0xff,
+        0xff,
+        0xff,
+        0xff,
+        0xff,
+        0xff,
+        0xff,
+        0xff,
+        0xff,
+        0xff,
+        0xff,
+        0xff,
+        0xff,
+        0xff,
+        0xff,
+        0,
+        0,
+        0,
+        0x10,
+        0,
+        0,
+        0,
+        0,
+        0,
+        0,
+        0,
+        5,
+        0,
+        0,
+        0,
+        0,
+        0,
+        0,
+        0,
+        9,
+        0x10,
+        0x33,
+        0x55,
+        0x5d,
+    ];
+    check(one_row() == bytes)
+}
+
 #[test]
 fn cut() -> Result<(), Fail> {
     let log = one_row();

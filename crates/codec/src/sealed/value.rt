@@ -5,18 +5,18 @@ ghost use Rattle.codec.specs.Seals.{sealed-check, sealed-bytes, sealed-read};
 ghost use Rattle.codec.specs.Kept.{sealed-most};
 use super::SEALED_MOST;
 use super::Sealed;
-use crate::fault::Fault;
+use crate::fault::KindFault;
 use crate::value::Value;
 
 impl Sealed {
     // May these bytes be sealed? Refuses with 18 where they are more than the most.
-    pub fn check(bytes: &[u8]) -> Result<(), Fault>
+    pub fn check(bytes: &[u8]) -> Result<(), KindFault>
         ensures { λ r. ⌜ r ≡ sealed-check (now (bytes .entry)) ⌝ }
     {
         if bytes.len() <= SEALED_MOST {
             Ok(())
         } else {
-            Err(Fault::NoValue)
+            Err(KindFault::NoValue)
         }
     }
 

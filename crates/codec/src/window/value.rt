@@ -5,18 +5,18 @@ ghost use Rattle.codec.specs.Windows.{window-check, window-bytes, window-read}
 use super::Window;
 use crate::bytes::put_u64;
 use crate::bytes::take_u64;
-use crate::fault::Fault;
+use crate::fault::KindFault;
 use crate::value::Value;
 
 impl Window {
     // May a window have these days? Refuses with 18 where the first is not below the end.
-    pub fn check(first: u64, end: u64) -> Result<(), Fault>
+    pub fn check(first: u64, end: u64) -> Result<(), KindFault>
         ensures { λ r. ⌜ r ≡ window-check first end ⌝ }
     {
         if first < end {
             Ok(())
         } else {
-            Err(Fault::NoValue)
+            Err(KindFault::NoValue)
         }
     }
 

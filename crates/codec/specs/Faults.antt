@@ -1,0 +1,7 @@
+-- What stops a making, and its number.
+use Prim.Native.Nat.{ℕ}
+use Rattle.codec.specs.declared.fault.KindFault.{KindFault}
+use Rattle.codec.specs.declared.fault.KindFault.the-variants.{NoValue}
+
+abbrev pub number-of : KindFault → ℕ
+number-of NoValue = 18

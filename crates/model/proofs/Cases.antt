@@ -1,0 +1,61 @@
+-- The eight cases, by computation.
+use mathlib.Core.Path.{_≡_, refl, sym, _∙_, ap, ap₂}
+use mathlib.Core.Bool.{Bool, true, false, cond, not, _&&_}
+use Prim.Native.Nat.{ℕ}
+use lib.Dec.{eqb}
+use lib.Count.{ones, onesIn}
+use Rattle.crc32c.specs.Crc.{one-bit, eight-bits}
+use Rattle.table.specs.declared.Entry.{Entry}
+use Rattle.table.specs.Entries.{entry-check, entry, head-by}
+use Rattle.std.specs.declared.option.Option.the-variants.{Some, None}
+use Rattle.model.specs.declared.Fault.the-variants.{EqualEpochs}
+use native.Mathlib.Omega.{arith}
+use Rattle.model.proofs.Choice.{entry-whole, failing-whole}
+use Rattle.journal.specs.Rows.{value-check}
+use Rattle.model.specs.Common.{hash, is-equal}
+use Rattle.model.specs.Cases.{Case-1, Case-2, Case-3, Case-4, Case-5, Case-6, Case-7, Case-8, Eight-cases}
+
+case-1 : Case-1
+unfolding ones onesIn
+case-1 = record { accepted = refl; first = refl; next = refl }
+
+case-6 : Case-6
+unfolding ones onesIn
+case-6 = record { passes = refl; refused = refl }
+
+case-5 : (s p a s′ p′ a′ : ℕ) → Case-5 s p a s′ p′ a′
+case-5 s p a s′ p′ a′ = record { older-first = refl; older-second = refl; same-first = refl; same-second = refl }
+
+case-8 : Case-8
+case-8 = record { size = refl; passes = refl; refused = refl }
+
+case-4 : Case-4
+unfolding ones onesIn entry-check one-bit eight-bits value-check hash
+case-4 = record { at-0 = refl; at-20-first = refl; at-20 = refl; at-21-second = refl; at-21 = refl }
+
+case-2 : Case-2
+unfolding ones onesIn entry-check one-bit eight-bits value-check hash
+case-2 = record { one = refl; two = refl; synced = refl; due = refl; low = refl; high = refl }
+
+case-3 : Case-3
+unfolding ones onesIn entry-check one-bit eight-bits value-check hash
+case-3 = record { writes = refl; appends = refl; empties = refl; restores = refl }
+
+case-7 : (s p a s′ p′ a′ : ℕ) (e : Entry) → Case-7 s p a s′ p′ a′ e
+case-7 s p a s′ p′ a′ e = record {
+  refused = ap₂ (λ (x y : Bool). cond (is-equal (head-by x y (entry 5 s p a) (entry 5 s′ p′ a′))) (Some (EqualEpochs 0)) None) (entry-whole 5 s p a (omega arith)) (entry-whole 5 s′ p′ a′ (omega arith));
+  first-fails = λ h. ap₂ (λ (x y : Bool). head-by x y e (entry 5 s p a)) (failing-whole e h) (entry-whole 5 s p a (omega arith));
+  second-fails = λ h. ap₂ (λ (x y : Bool). head-by x y (entry 5 s p a) e) (entry-whole 5 s p a (omega arith)) (failing-whole e h);
+}
+
+pub eight-cases : Eight-cases
+eight-cases = record {
+  case-1 = case-1;
+  case-2 = case-2;
+  case-3 = case-3;
+  case-4 = case-4;
+  case-5 = case-5;
+  case-6 = case-6;
+  case-7 = case-7;
+  case-8 = case-8;
+}

@@ -1,0 +1,73 @@
+-- A value that was stored is read again.
+use mathlib.Core.Path.{_≡_, refl, sym, _∙_, ap, ap₂, subst}
+use mathlib.Core.Bool.{Bool, true, false, cond, not, _&&_, _||_}
+use mathlib.Core.List.{List, [], _∷_, _++_}
+use Prim.Native.Nat.{ℕ, zero, suc, _+_, _-_, _*_, _/_, _%_, _^_, _≤_, _<_}
+use native.Mathlib.Omega.{arith}
+use lib.Dec.{eqb, ltb, leb}
+use lib.ListN.{length, take, drop, length-append}
+use Rattle.std.specs.shelf.Digits.{Under}
+use Rattle.std.specs.declared.option.Option.{Option}
+use Rattle.std.specs.declared.option.Option.the-variants.{Some, None}
+use Rattle.std.specs.declared.result.Result.{Result}
+use Rattle.std.specs.declared.result.Result.the-variants.{Ok, Err}
+use Rattle.std.proofs.shelf.Lists.{take-at, drop-at}
+use Rattle.std.proofs.shelf.Tests.{eq-eqb, ne-eqb, and-from, and-left, and-right, cond-true, cond-false, cases-eq}
+use Rattle.crc32c.proofs.Fits.{crc-fits}
+use Rattle.codec.specs.Bytes.{be, number}
+use Rattle.codec.specs.Kinds.{Kinds, Lawful}
+use Rattle.codec.proofs.Rounds.{number-be}
+use Rattle.journal.specs.declared.fault.Cursor.{Cursor}
+use Rattle.journal.specs.declared.fault.JournalFault.{JournalFault}
+use Rattle.journal.specs.declared.fault.JournalFault.the-variants.{Check}
+use Rattle.journal.specs.Rows.{Row, JournalMeaning, row-at, stored-bytes, stored-at, stored-of, encoding-of, check-of, value-check, value-answer, value-there, checked, decoded}
+
+check-fits : (bs : List ℕ) → Under 256 bs → value-check bs < 2 ^ 32
+unfolding value-check
+check-fits bs u = crc-fits bs u
+
+pub length-stored : (enc : List ℕ) → length (stored-of enc) ≡ length enc + 4
+length-stored enc = length-append enc (be 4 (value-check enc))
+
+encoding-back : (enc : List ℕ) → encoding-of (stored-of enc) ≡ enc
+encoding-back enc = let l = length-stored enc in let e : length (stored-of enc) - 4 ≡ length enc = omega arith in ap (λ (n : ℕ). take n (stored-of enc)) e ∙ take-at enc (be 4 (value-check enc)) (length enc) refl
+
+check-back : (enc : List ℕ) → Under 256 enc → check-of (stored-of enc) ≡ value-check enc
+check-back enc u =
+    let l = length-stored enc in
+    let e : length (stored-of enc) - 4 ≡ length enc = omega arith in
+    ap (λ (n : ℕ). number (drop n (stored-of enc))) e ∙ ap number (drop-at enc (be 4 (value-check enc)) (length enc) refl) ∙ number-be 4 (value-check enc) (check-fits enc u)
+
+not-here : (from o a b more : ℕ) → 0 < b → o ≡ from + (a + more) → (eqb from o && eqb a b) ≡ false
+not-here from o zero b more l e = and-right (eqb from o) _ (ne-eqb 0 b (λ z. omega arith))
+not-here from o (suc a) b more l e = and-left (eqb from o) _ (ne-eqb from o (λ z. omega arith))
+
+module _ {K V : Type 0} (kinds : Kinds K V) (lawful : Lawful kinds) where
+  pub checked-stored : (c : Cursor) (x : V) → checked (kinds .decode) c (stored-of (kinds .encode x)) ≡ Ok x
+  checked-stored c x =
+      let enc = kinds .encode x in
+      let e = encoding-back enc in
+      cond-true (eqb (value-check (encoding-of (stored-of enc))) (check-of (stored-of enc))) _ _ (eq-eqb _ _ (ap value-check e ∙ sym (check-back enc (lawful .encodes x))))
+      ∙ ap (λ (bs : List ℕ). decoded (kinds .decode) c (kinds .decode bs)) e
+      ∙ ap (decoded (kinds .decode) c) (lawful .decodes x)
+
+  -- the stored value of a row stands behind those before it
+  stored-found : (from o : ℕ) (rs : List (Row K)) (p : ℕ) (r : Row K) → row-at rs p ≡ Some r → 0 < length (r .stored) → o ≡ from + stored-bytes (take p rs) → stored-at from rs o (length (r .stored)) ≡ Some (r .stored)
+  stored-found from o [] p r q l e = cc
+  stored-found from o (r′ ∷ rs) zero r q l e =
+      let same : r′ ≡ r = cc in
+      let there : eqb from o ≡ true = eq-eqb from o (omega arith) in
+      cond-true (eqb from o && eqb (length (r′ .stored)) (length (r .stored))) _ _ (and-from (eqb from o) _ there (eq-eqb _ _ (ap (λ (z : Row K). length (z .stored)) same)))
+      ∙ ap (λ (z : Row K). Some (z .stored)) same
+  stored-found from o (r′ ∷ rs) (suc p) r q l e =
+      cond-false (eqb from o && eqb (length (r′ .stored)) (length (r .stored))) _ _ (not-here from o (length (r′ .stored)) (length (r .stored)) (stored-bytes (take p rs)) l e)
+      ∙ stored-found (from + length (r′ .stored)) o rs p r q l (omega arith)
+
+  pub value-found : (j : JournalMeaning K) (s p : ℕ) (r : Row K) (x : V) → row-at (j .rows s) p ≡ Some r → r .stored ≡ stored-of (kinds .encode x) →
+      value-answer (kinds .decode) j (record { section = s; offset = stored-bytes (take p (j .rows s)); size = length (r .stored) }) ≡ Ok x
+  value-found j s p r x q e =
+      let c : Cursor = record { section = s; offset = stored-bytes (take p (j .rows s)); size = length (r .stored) } in
+      let l : length (r .stored) ≡ length (kinds .encode x) + 4 = ap length e ∙ length-stored (kinds .encode x) in
+      ap (value-there (kinds .decode) c) (stored-found 0 (stored-bytes (take p (j .rows s))) (j .rows s) p r q (omega arith) (omega arith))
+      ∙ ap (checked (kinds .decode) c) e
+      ∙ checked-stored c x

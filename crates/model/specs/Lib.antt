@@ -1,0 +1,10 @@
+pub mod Faults
+pub mod Common
+pub mod Init
+pub mod Put
+pub mod Lookup
+pub mod Sync
+pub mod Runs
+pub mod Law
+pub mod Cases
+pub mod Witness
