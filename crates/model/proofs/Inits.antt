@@ -27,7 +27,7 @@ use Rattle.model.specs.declared.Fault.the-variants.{InitialSize}
 use Rattle.model.specs.Common.{refuse, _then_, of-journal, each, lowest, or-else, last, power-of-two, table-index, head-at, is-equal}
 use Rattle.model.specs.Init.{is-empty-checkpoint, resumed, settings-fault, start-fault, recover-entry, recovered, recovered-head, empty-entry, empty-pair, recover-stop, fit-length, with-sync, recover-table, recover-by, start-numbers, start-table, start-journal}
 use Rattle.model.specs.Law.{Met-from, ledger-trail}
-use Rattle.model.proofs.Choice.{Pair, neither, recovered-fits, Recovered-pair, pair-not-equal, pair-later, emptied-loose, Loose}
+use Rattle.model.proofs.Choice.{Pair, neither, recovered-fits, Recovered-pair, pair-is-equal, pair-later, emptied-loose, Loose}
 use Rattle.model.proofs.Replay.{changed-all, changed-append, apply-cells, at-set, at-set-other, at-resized, at-added, length-resized}
 use Rattle.model.proofs.Safe.{Safe, now-fits, now-long, All-harmless, Harmless, harmless-append}
 use Rattle.model.proofs.Chains.{met-from-more, extends-same}
@@ -40,7 +40,7 @@ unfolding ones onesIn
 power-positive zero h = absurd (both-ways false refl h)
 power-positive (suc n) h = omega arith
 
-lowest-none : (n : ℕ) (f : ℕ → Bool) → ((i : ℕ) → i < n → f i ≡ false) → lowest n f ≡ None
+pub lowest-none : (n : ℕ) (f : ℕ → Bool) → ((i : ℕ) → i < n → f i ≡ false) → lowest n f ≡ None
 lowest-none zero f h = refl
 lowest-none (suc n) f h = ap₂ (λ (x : Option ℕ) (b : Bool). or-else x (cond b (Some n) None)) (lowest-none n f (λ i l. h i (omega arith))) (h n (omega arith))
 
@@ -124,12 +124,8 @@ module _ {K V : Type 0} (kinds : Kinds K V) (s : Settings) (c : Checkpoint) (t :
   long : 2 * n ≤ length (t .cells)
   long = now-long (c .epoch) n (b .heads) (b .keeps) t since (b .table)
 
-  not-equal : (h : Head) → (h ≡ none) ⊎ ((x : Entry) × (h ≡ latest x)) → is-equal h ≡ false
-  not-equal h (inl q) = ap is-equal q
-  not-equal h (inr q) = ap is-equal (q .1)
-
   pub no-stop : recover-stop c (t .cells) ≡ None
-  no-stop = lowest-none n _ (λ i h. not-equal _ (pair-not-equal (c .epoch) _ _ (fit i h .pair)))
+  no-stop = lowest-none n _ (λ i h. pair-is-equal (c .epoch) _ _ (fit i h .pair))
 
   pub not-empty : resumed (Some c) ≡ Some c
   not-empty = cond-false (is-empty-checkpoint c) None (Some c) (and-left (eqb (c .epoch) 0) _ (ne-eqb (c .epoch) 0 (λ z. omega (arith, b .epoch))))

@@ -33,16 +33,17 @@ use Rattle.model.specs.Common.{power-of-two, refuse, _then_, unless, answered,
 use Rattle.model.specs.Faults.{fault-number}
 use Rattle.model.specs.Init.{settings-fault, start-fault, stop-fault, start-numbers, init-answer, resumed}
 use Rattle.model.specs.Lookup.{has-no-next, walk-from, found-by, find-key, lifted, get-found, get-answer, has-found, has-answer}
-use Rattle.model.specs.Sync.{epoch-fault, chunk-fault, starts, start, chunk-numbers, next-epoch, sync-range, sync-changes, sync-fault, sync-answer, sync-table, sync-numbers, synced, checkpoint-at}
+use Rattle.model.specs.Put.{put-fault}
+use Rattle.model.specs.Sync.{close-fault, epoch-fault, chunk-fault, starts, start, chunk-numbers, next-epoch, sync-range, sync-changes, sync-fault, sync-answer, sync-table, sync-numbers, synced, checkpoint-at}
 use Rattle.model.specs.Runs.{Module, Event, Run, is-ok}
 use Rattle.model.specs.Law.{Trail, Adds-by, Adds, Met, ends, goes, Met-from, ledger-trail, first, is-there, Outside, Led, Keeps-trails, Law}
-use Rattle.model.proofs.Choice.{Pair, pair-not-equal}
 use Rattle.model.proofs.Replay.{changed-all, apply-cells}
 use Rattle.model.proofs.Chains.{Finds, met-walk-from, met-from-more, extends-same}
 use Rattle.model.proofs.Holds.{Open, Based, Holds}
-use Rattle.model.proofs.Puts.{then-left, sound-long}
+use Rattle.model.proofs.Puts.{then-left}
 use Rattle.model.proofs.Syncs.{table-synced, epoch-early, settled-trails, rows-synced}
 use Rattle.model.proofs.Inits.{no-stop, not-empty, no-fault}
+use Rattle.model.proofs.Refusals.{then-some, refuse-some, none-some, pair-none, put-refused, sync-refused, close-refused}
 use Rattle.model.proofs.Steps.{run-holds}
 
 module _ {K V : Type 0} (kinds : Kinds K V) where
@@ -55,20 +56,8 @@ module _ {K V : Type 0} (kinds : Kinds K V) where
     abbrev i : ℕ
     i = table-index kinds (v .«table_size») k
 
-    not-equal : (h : Head) → (h ≡ none) ⊎ ((x : Entry) × (h ≡ latest x)) → is-equal h ≡ false
-    not-equal h (inl q) = ap is-equal q
-    not-equal h (inr q) = ap is-equal (q .1)
-
-    no-past : (m : ℕ) → m < length (t .cells) → past-end t m ≡ None
-    no-past m h = cond-false (leb (length (t .cells)) m) _ _ (lt-leb (length (t .cells)) m h)
-
     no-fault-here : (pair-past t i then pair-equal t i) ≡ None
-    no-fault-here =
-        let b : i < v .«table_size» = mod-lt (hash (kinds .bytes k)) (o .sound .positive) in
-        let l = sound-long (v .«table_size») (v .«next_epoch») (v .«resize_progress») (t .cells) (o .sound) in
-        ap₂ (λ (x y : Option Fault). x then y)
-        (ap₂ (λ (x y : Option Fault). x then y) (no-past (2 * i) (omega arith)) (no-past (2 * i + 1) (omega arith)))
-        (cond-false (is-equal (head-at (t .cells) i)) _ _ (not-equal (head-at (t .cells) i) (pair-not-equal (v .«next_epoch») _ _ (o .sound .pairs i b))))
+    no-fault-here = pair-none kinds v t j lines given o i (mod-lt (hash (kinds .bytes k)) (o .sound .positive))
 
     finds : Finds kinds lawful j k (ledger-trail kinds k lines) (find-key kinds v t j k)
     finds =
@@ -142,17 +131,6 @@ module _ {K V : Type 0} (kinds : Kinds K V) where
   answered-err None a f e = let z : _≡_ {A = ℕ} 0 1 = cc in absurd (omega arith)
   answered-err (Some g) a f e = let z : g ≡ f = cc in ap Some z
 
-  then-some : (a b : Option Fault) (f : Fault) → (a then b) ≡ Some f → (a ≡ Some f) ⊎ (b ≡ Some f)
-  then-some (Some g) b f e = inl e
-  then-some None b f e = inr e
-
-  refuse-some : (b : Bool) (g f : Fault) → refuse b g ≡ Some f → g ≡ f
-  refuse-some true g f e = cc
-  refuse-some false g f e = let z : _≡_ {A = ℕ} 0 1 = cc in absurd (omega arith)
-
-  none-some : {B : Type 0} (f : Fault) → _≡_ {A = Option Fault} None (Some f) → B
-  none-some f e = let z : _≡_ {A = ℕ} 0 1 = cc in absurd (omega arith)
-
   settings-number : (s : Settings) (f : Fault) → settings-fault s ≡ Some f → fault-number f ≤ 3
   settings-number s f e =
       let a : Bool = not (power-of-two (s .«initial_size»)) in
@@ -215,12 +193,16 @@ module _ {K V : Type 0} (kinds : Kinds K V) where
 
 pub law : {K V : Type 0} → Law K V
 law {K} {V} kinds lawful = record {
+  one-trail = λ v t j k all more p q. met-from-one kinds lawful (j .rows) k (head-at (t .cells) (table-index kinds (v .«table_size») k)) all more p q;
   trails = λ m v l k. led kinds m v l .trails k;
   gets = λ m v l k. get-is kinds lawful v (m .table) (m .journal) (m .ledger .lines) (m .latest) (led kinds m v l) k;
   has = λ m v l k. has-is kinds lawful v (m .table) (m .journal) (m .ledger .lines) (m .latest) (led kinds m v l) k;
   inits = λ es m r s f e. init-is kinds m (run-holds kinds r) s f e;
   sync-trails = λ m v l ok k all q. trail-by kinds v (m .table) (m .journal) (m .ledger .lines) (m .latest) (led kinds m v l) (sync-fault v (m .table)) refl k all q;
   sync-entries = λ m v l i a. entry-by kinds v (m .table) (m .journal) (m .ledger .lines) (m .latest) (led kinds m v l) (sync-fault v (m .table)) i a;
+  puts = λ m v l fits k x f e. put-refused kinds v (m .table) (m .journal) (m .ledger .lines) (m .latest) (led kinds m v l) fits k x f (answered-err kinds (put-fault kinds v (m .table) (m .journal) fits k x) _ f e);
+  syncs = λ m v l f e. sync-refused kinds v (m .table) (m .journal) (m .ledger .lines) (m .latest) (led kinds m v l) f (answered-err kinds (sync-fault v (m .table)) _ f e);
+  closes = λ m v l f e. close-refused kinds v (m .table) (m .journal) (m .ledger .lines) (m .latest) (led kinds m v l) f (answered-err kinds (close-fault v (m .table)) _ f e);
   alike = λ m n v w l r e k.
       let a = led kinds m v l in
       let b = led kinds n w r in

@@ -80,7 +80,7 @@ module _ {K V : Type 0} (kinds : Kinds K V) (v : Numbers) (t : TableMeaning) (j 
       let d = mul-add (suc l) (kinds .width) 28 in
       omega arith
 
-section-up : (v : Numbers) → (v .«current_section» ≤ put-section v)
+pub section-up : (v : Numbers) → (v .«current_section» ≤ put-section v)
 section-up v = by (is-full v)
   where
     by : (b : Bool) → v .«current_section» ≤ cond b (v .«current_section» + 1) (v .«current_section»)
@@ -160,6 +160,10 @@ module _ (n e i s : ℕ) (x : Entry) (cells : List Entry) (b : i < n) (l : 2 * n
               twice l4 .other (2 * (n + m) + 1) (λ y. omega arith) (λ y. z (omega arith)) ∙ once .other (2 * (n + m) + 1) (λ y. omega arith) (λ y. omega arith) ∙ h .2 m g .1 ∙ sym (twice-cells l4 .other m (omega (arith, h .0)) z .1),
             ))
             (cases-eq m i),
+        λ m f g. let a = ltb-true i p q in (
+          twice l4 .other (2 * (n + m)) (λ y. omega arith) (λ y. omega arith) ∙ once .other (2 * (n + m)) (λ y. omega arith) (λ y. omega arith) ∙ h .3 m f g .0,
+          twice l4 .other (2 * (n + m) + 1) (λ y. omega arith) (λ y. omega arith) ∙ once .other (2 * (n + m) + 1) (λ y. omega arith) (λ y. omega arith) ∙ h .3 m f g .1,
+        ),
       )
       by false q = (
         h .0,
@@ -169,6 +173,10 @@ module _ (n e i s : ℕ) (x : Entry) (cells : List Entry) (b : i < n) (l : 2 * n
               once .other (2 * (n + m)) (λ y. omega arith) (λ y. omega arith) ∙ h .2 m g .0 ∙ sym (once-cells .other m (omega (arith, h .0)) z .0),
               once .other (2 * (n + m) + 1) (λ y. omega arith) (λ y. omega arith) ∙ h .2 m g .1 ∙ sym (once-cells .other m (omega (arith, h .0)) z .1),
             ),
+        λ m f g. (
+          once .other (2 * (n + m)) (λ y. omega arith) (λ y. omega arith) ∙ h .3 m f g .0,
+          once .other (2 * (n + m) + 1) (λ y. omega arith) (λ y. omega arith) ∙ h .3 m f g .1,
+        ),
       )
 
 pub sound-long : (n e : ℕ) (progress : Option ℕ) (cells : List Entry) → Sound n e progress cells → 2 * n ≤ length cells

@@ -25,7 +25,8 @@ use Rattle.model.specs.Common.{earlier, table-index, head-at}
 use Rattle.model.specs.Faults.{fault-number}
 use Rattle.model.specs.Lookup.{has-no-next, get-answer, has-answer}
 use Rattle.model.specs.Init.{init-answer}
-use Rattle.model.specs.Sync.{sync-answer, sync-table, sync-journal, sync-numbers, start, chunk-end}
+use Rattle.model.specs.Put.{put-answer}
+use Rattle.model.specs.Sync.{close-answer, sync-answer, sync-table, sync-journal, sync-numbers, start, chunk-end}
 use Rattle.model.specs.Runs.{Ledger, Module, Event, done, Call, sync-call, Run, is-ok}
 
 -- ---- trails
@@ -83,6 +84,8 @@ module _ {K V : Type 0} (kinds : Kinds K V) where
     pub freezer : m .freezer ≡ Some v
 
   pub record Keeps-trails : Type 0 where
+    -- a key has at most one trail
+    pub one-trail : (v : Numbers) (t : TableMeaning) (j : JournalMeaning K) (k : K) (all more : List V) → Trail kinds v t j k all → Trail kinds v t j k more → all ≡ more
     -- 1: every key's trail is the ledger's
     pub trails : (m : Module K V) (v : Numbers) → Led m v → (k : K) → Trail kinds v (m .table) (m .journal) k (ledger-trail kinds k (m .ledger .lines))
     -- 2: get answers the first of it or none, has whether there is one; neither refuses
@@ -103,6 +106,11 @@ module _ {K V : Type 0} (kinds : Kinds K V) where
         ((all : List V) → Trail kinds v (m .table) (m .journal) k all → Trail kinds w (n .table) (n .journal) k all)
         × (get-answer kinds v (m .table) (m .journal) k ≡ get-answer kinds w (n .table) (n .journal) k)
         × (has-answer kinds v (m .table) (m .journal) k ≡ has-answer kinds w (n .table) (n .journal) k)
+    -- 6: put is refused with 10 or 11 alone, sync and close with 12 alone
+    pub puts : (m : Module K V) (v : Numbers) → Led m v → (fits : Bool) (k : K) (x : V) (f : Fault) →
+        put-answer kinds v (m .table) (m .journal) fits k x ≡ Err f → (fault-number f ≡ 10) ⊎ (fault-number f ≡ 11)
+    pub syncs : (m : Module K V) (v : Numbers) → Led m v → (f : Fault) → sync-answer kinds v (m .table) (m .journal) ≡ Err f → fault-number f ≡ 12
+    pub closes : (m : Module K V) (v : Numbers) → Led m v → (f : Fault) → close-answer kinds v (m .table) (m .journal) ≡ Err f → fault-number f ≡ 12
 
 -- the law, of every kind of key and of value
 abbrev pub Law : Type 0 → Type 0 → Type 0
