@@ -36,7 +36,7 @@ use Rattle.model.specs.Lookup.{has-no-next, walk-from, found-by, find-key, lif
 use Rattle.model.specs.Put.{put-fault}
 use Rattle.model.specs.Sync.{close-fault, epoch-fault, chunk-fault, starts, start, chunk-numbers, next-epoch, sync-range, sync-changes, sync-fault, sync-answer, sync-table, sync-numbers, synced, checkpoint-at}
 use Rattle.model.specs.Runs.{Module, Event, Run, is-ok}
-use Rattle.model.specs.Law.{Trail, Adds-by, Adds, Met, ends, goes, Met-from, ledger-trail, first, is-there, Outside, Led, Keeps-trails, Law}
+use Rattle.model.specs.Law.{Trail, Adds-by, Adds, Met, ends, goes, Met-from, ledger-trail, first, is-there, Outside, Led, Law}
 use Rattle.model.proofs.Replay.{changed-all, apply-cells}
 use Rattle.model.proofs.Chains.{Finds, met-walk-from, met-from-more, extends-same}
 use Rattle.model.proofs.Holds.{Open, Based, Holds}
@@ -191,7 +191,7 @@ module _ {K V : Type 0} (kinds : Kinds K V) where
 
 -- ---- the law
 
-pub law : {K V : Type 0} → Law K V
+pub law : {K V : Type 0} (kinds : Kinds K V) → Lawful kinds → Law kinds
 law {K} {V} kinds lawful = record {
   one-trail = λ v t j k all more p q. met-from-one kinds lawful (j .rows) k (head-at (t .cells) (table-index kinds (v .«table_size») k)) all more p q;
   trails = λ m v l k. led kinds m v l .trails k;

@@ -11,7 +11,7 @@ use Rattle.std.specs.declared.option.Option.{Option}
 use Rattle.std.specs.declared.option.Option.the-variants.{Some, None}
 use Rattle.std.specs.declared.result.Result.{Result}
 use Rattle.std.specs.declared.result.Result.the-variants.{Ok, Err}
-use Rattle.codec.specs.Kinds.{Kinds, Lawful, record-bytes}
+use Rattle.codec.specs.Kinds.{Kinds, record-bytes}
 use Rattle.table.specs.declared.Entry.{Entry}
 use Rattle.table.specs.declared.Head.{Head}
 use Rattle.table.specs.declared.Head.the-variants.{Vacant as none, Latest as latest, Equal as equal}
@@ -83,7 +83,7 @@ module _ {K V : Type 0} (kinds : Kinds K V) where
     pub run : Run kinds events m
     pub freezer : m .freezer ≡ Some v
 
-  pub record Keeps-trails : Type 0 where
+  pub record Law : Type 0 where
     -- a key has at most one trail
     pub one-trail : (v : Numbers) (t : TableMeaning) (j : JournalMeaning K) (k : K) (all more : List V) → Trail kinds v t j k all → Trail kinds v t j k more → all ≡ more
     -- 1: every key's trail is the ledger's
@@ -111,7 +111,3 @@ module _ {K V : Type 0} (kinds : Kinds K V) where
         put-answer kinds v (m .table) (m .journal) fits k x ≡ Err f → (fault-number f ≡ 10) ⊎ (fault-number f ≡ 11)
     pub syncs : (m : Module K V) (v : Numbers) → Led m v → (f : Fault) → sync-answer kinds v (m .table) (m .journal) ≡ Err f → fault-number f ≡ 12
     pub closes : (m : Module K V) (v : Numbers) → Led m v → (f : Fault) → close-answer kinds v (m .table) (m .journal) ≡ Err f → fault-number f ≡ 12
-
--- the law, of every kind of key and of value
-abbrev pub Law : Type 0 → Type 0 → Type 0
-Law K V = (kinds : Kinds K V) → Lawful kinds → Keeps-trails kinds

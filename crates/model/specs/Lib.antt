@@ -7,4 +7,3 @@ pub mod Sync
 pub mod Runs
 pub mod Law
 pub mod Cases
-pub mod Witness
