@@ -7,3 +7,4 @@ pub mod Sync
 pub mod Runs
 pub mod Law
 pub mod Cases
+pub mod Witness
