@@ -14,7 +14,7 @@ use Rattle.codec.specs.Kinds.{Kinds}
 use Rattle.table.specs.declared.Entry.{Entry}
 use Rattle.table.specs.declared.TableFault.the-variants.{PastEnd}
 use Rattle.table.specs.declared.Head.{Head}
-use Rattle.table.specs.declared.Head.the-variants.{Vacant as none, Latest as latest, Equal as equal}
+use Rattle.table.specs.declared.Head.the-variants.{Vacant, Latest, Equal}
 use Rattle.table.specs.Entries.{head}
 use Rattle.table.specs.Store.{TableMeaning, slot-0, slot-1}
 use Rattle.journal.specs.declared.fault.JournalFault.{JournalFault}
@@ -93,15 +93,15 @@ abbrev pub table-index : {K V : Type 0} → Kinds K V → ℕ → K → ℕ
 table-index kinds size k = hash (kinds .bytes k) % size
 
 abbrev pub is-equal : Head → Bool
-is-equal none = false
-is-equal (latest h) = false
-is-equal equal = true
+is-equal Vacant = false
+is-equal (Latest h) = false
+is-equal Equal = true
 
 -- has the head added at least the frequency
 abbrev pub is-due : ℕ → Head → Bool
-is-due frequency none = false
-is-due frequency (latest h) = leb frequency (h .added)
-is-due frequency equal = false
+is-due frequency Vacant = false
+is-due frequency (Latest h) = leb frequency (h .added)
+is-due frequency Equal = false
 
 abbrev pub head-at : List Entry → ℕ → Head
 head-at cells i = head (slot-0 cells i) (slot-1 cells i)

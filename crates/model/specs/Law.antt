@@ -14,7 +14,7 @@ use Rattle.std.specs.declared.result.Result.the-variants.{Ok, Err}
 use Rattle.codec.specs.Kinds.{Kinds, record-bytes}
 use Rattle.table.specs.declared.Entry.{Entry}
 use Rattle.table.specs.declared.Head.{Head}
-use Rattle.table.specs.declared.Head.the-variants.{Vacant as none, Latest as latest, Equal as equal}
+use Rattle.table.specs.declared.Head.the-variants.{Vacant, Latest, Equal}
 use Rattle.table.specs.Store.{TableMeaning, at, apply-all}
 use Rattle.journal.specs.Rows.{Row, JournalMeaning, row-at, stored-of, apply-all as apply-journal}
 use Rattle.model.specs.declared.Settings.{Settings}
@@ -52,9 +52,9 @@ module _ {K V : Type 0} (kinds : Kinds K V) (rows : ℕ → List (Row K)) (k : K
         earlier (r .next-section) (r .next-position) s p ≡ true → Met (r .next-section) (r .next-position) rest → Adds r rest all → Met s p all
 
   abbrev pub Met-from : Head → List V → Type 0
-  Met-from none all = all ≡ []
-  Met-from (latest h) all = Met (h .section) (h .position) all
-  Met-from equal all = ⊥
+  Met-from Vacant all = all ≡ []
+  Met-from (Latest h) all = Met (h .section) (h .position) all
+  Met-from Equal all = ⊥
 
 -- the trail of a key: what is met from its pair's head
 abbrev pub Trail : {K V : Type 0} → Kinds K V → Numbers → TableMeaning → JournalMeaning K → K → List V → Type 0

@@ -8,3 +8,4 @@ pub mod Runs
 pub mod Law
 pub mod Cases
 pub mod Witness
+pub mod Edges

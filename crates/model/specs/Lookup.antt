@@ -11,7 +11,7 @@ use Rattle.std.specs.declared.result.Result.{Result}
 use Rattle.std.specs.declared.result.Result.the-variants.{Ok, Err}
 use Rattle.codec.specs.Kinds.{Kinds}
 use Rattle.table.specs.declared.Head.{Head}
-use Rattle.table.specs.declared.Head.the-variants.{Vacant as none, Latest as latest, Equal as equal}
+use Rattle.table.specs.declared.Head.the-variants.{Vacant, Latest, Equal}
 use Rattle.table.specs.Store.{TableMeaning}
 use Rattle.journal.specs.declared.fault.Cursor.{Cursor}
 use Rattle.journal.specs.declared.fault.JournalFault.{JournalFault}
@@ -46,9 +46,9 @@ module _ {K V : Type 0} (kinds : Kinds K V) (rows : ℕ → List (Row K)) (k : K
   walk (suc fuel) s p = met s p (λ a b. walk fuel a b) (row-at (rows s) p)
 
   abbrev pub walk-from : Head → Result (Option Cursor) Fault
-  walk-from none = Ok None
-  walk-from (latest h) = walk (suc (rows-below rows (h .section) + h .position)) (h .section) (h .position)
-  walk-from equal = Ok None
+  walk-from Vacant = Ok None
+  walk-from (Latest h) = walk (suc (rows-below rows (h .section) + h .position)) (h .section) (h .position)
+  walk-from Equal = Ok None
 
 module _ {K V : Type 0} (kinds : Kinds K V) (v : Numbers) (t : TableMeaning) (j : JournalMeaning K) where
   abbrev pub found-by : Option Fault → Result (Option Cursor) Fault → Result (Option Cursor) Fault

@@ -10,7 +10,7 @@ use Rattle.std.specs.declared.result.Result.{Result}
 use Rattle.codec.specs.Kinds.{Kinds, record-bytes}
 use Rattle.table.specs.declared.Entry.{Entry}
 use Rattle.table.specs.declared.Head.{Head}
-use Rattle.table.specs.declared.Head.the-variants.{Vacant as none, Latest as latest, Equal as equal}
+use Rattle.table.specs.declared.Head.the-variants.{Vacant, Latest, Equal}
 use Rattle.table.specs.Entries.{head, entry, slot}
 use Rattle.table.specs.Store.{TableMeaning, Change, write, slot-0, slot-1}
 use Rattle.journal.specs.declared.fault.Cursor.{Cursor}
@@ -27,19 +27,19 @@ above (Some p) i = ltb i p
 
 -- what the head gives to a new row and entry
 abbrev pub place-section : Head → ℕ
-place-section none = last
-place-section (latest h) = h .section
-place-section equal = last
+place-section Vacant = last
+place-section (Latest h) = h .section
+place-section Equal = last
 
 abbrev pub place-position : Head → ℕ
-place-position none = last
-place-position (latest h) = h .position
-place-position equal = last
+place-position Vacant = last
+place-position (Latest h) = h .position
+place-position Equal = last
 
 abbrev pub head-added : Head → ℕ
-head-added none = 0
-head-added (latest h) = h .added
-head-added equal = 0
+head-added Vacant = 0
+head-added (Latest h) = h .added
+head-added Equal = 0
 
 -- the range of sections with unsynced rows, one put later
 abbrev pub extended : Option (ℕ × ℕ) → ℕ → Option (ℕ × ℕ)
