@@ -2,10 +2,10 @@
 use mathlib.Core.Path.{_≡_, refl, sym, ap, subst, _∙_}
 use mathlib.Core.Bool.{true}
 use mathlib.Core.List.{List, [], _∷_, _++_}
-use Prim.Native.Nat.{ℕ, zero, suc, _+_, _*_, _/_, _%_, _^_, _<_, _≤_}
+use Prim.Native.Nat.{ℕ, zero, suc, _+_, _*_, _/_, _%_, _^_, _<_}
 use native.Mathlib.Nat.{pow-suc, pow-succ', mod-eq-of-lt, add-mul-div-right, mul-assoc}
 use native.Mathlib.Omega.{arith}
-use lib.Arith.{mod-mul, digits-lt, digits-div, digits-mod}
+use lib.Arith.{mod-mul, digits-lt, digits-div}
 use lib.Dec.{ltb}
 use lib.ListN.{length, getD, take, drop}
 use Rattle.std.specs.shelf.Digits.{Under}

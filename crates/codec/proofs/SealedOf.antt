@@ -7,13 +7,12 @@ use Prim.Native.Nat.{ℕ, _-_, _≤_}
 use native.Mathlib.Omega.{arith}
 use lib.Dec.{leb}
 use lib.ListN.{length, take, drop, replicate, take-append-drop}
-use Rattle.std.specs.declared.option.Option.the-variants.{Some, None}
+use Rattle.std.specs.declared.option.Option.the-variants.{Some}
 use Rattle.std.specs.shelf.Digits.{Under}
 use Rattle.std.proofs.shelf.Lists.{take-at, drop-replicate, length-take-le}
 use Rattle.std.proofs.shelf.Tests.{both-ways, and-from, le-leb}
 use Rattle.codec.specs.declared.sealed.Sealed.{Sealed}
 use Rattle.codec.specs.contracts.sealed.Sealed.{the-ghost, the-propositions}
-use Rattle.codec.specs.Bytes.{all-bytes}
 use Rattle.codec.specs.Kept.{sealed-most, sealable, padded, Padded, padded-keeps}
 use Rattle.codec.specs.Seals.{sealed-bytes, sealed-if}
 use Rattle.codec.proofs.Rounds.{all-under, under-all, under-take}

@@ -1,6 +1,6 @@
 -- The register is linear over exclusive or, so that its high bits and its low byte go separate ways.
 use mathlib.Core.Path.{_≡_, refl, sym, ap, _∙_}
-use Prim.Native.Nat.{ℕ, zero, suc, _+_, _*_, _/_, _%_, _^_, _<_}
+use Prim.Native.Nat.{ℕ, zero, suc, _*_, _/_, _%_, _^_, _<_}
 use native.Mathlib.Omega.{arith}
 use lib.Bits.{bitXor, xor-shr, xor-mod, xor-assoc, xor-comm, xor-shifted, xor-zero-r, shifted-half, shifted-even}
 use Rattle.std.proofs.shelf.Bits.{shr-split, mod-below}

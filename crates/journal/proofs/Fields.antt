@@ -4,8 +4,8 @@ use mathlib.Core.Bool.{true, false}
 use mathlib.Core.List.{List, _∷_, _++_, append-assoc}
 use Prim.Native.Nat.{ℕ, _+_, _-_, _≤_}
 use native.Mathlib.Omega.{arith}
-use lib.Dec.{eqb, leb, ltb}
-use lib.ListN.{length, take, drop, length-append}
+use lib.Dec.{ltb}
+use lib.ListN.{length, take, length-append}
 use Rattle.std.specs.Holes.{between}
 use Rattle.std.proofs.shelf.Lists.{take-at, drop-at}
 use Rattle.std.proofs.shelf.Tests.{and-from, or-from, le-leb, le-ltb, eq-eqb, cond-true, cond-false}
@@ -13,7 +13,7 @@ use Rattle.crc32c.specs.Crc.{crc}
 use Rattle.crc32c.proofs.Fits.{crc-fits}
 use Rattle.codec.specs.Bytes.{be, number}
 use Rattle.codec.proofs.Rounds.{number-be}
-use Rattle.journal.specs.Log.{LogRow, Writable, Shown, row, row-bytes, row-size, row-of, log-row, section-of, value-length, value-of, check-of, is-blank, is-marked, is-row, look}
+use Rattle.journal.specs.Log.{LogRow, Writable, row, row-bytes, row-size, row-of, log-row, section-of, value-length, value-of, check-of, is-blank, is-marked, is-row, look}
 
 -- what stands behind `before` is read again
 field : (i j : ℕ) (bs before part rest : List ℕ) → bs ≡ before ++ (part ++ rest) → length before ≡ i → i + length part ≡ j → between i j bs ≡ part

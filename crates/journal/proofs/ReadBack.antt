@@ -6,10 +6,10 @@ use Prim.Native.Nat.{ℕ, zero, suc, _+_}
 use native.Mathlib.Nat.{add-zero, zero-add}
 use native.Mathlib.Omega.{arith}
 use lib.Dec.{ltb}
-use lib.ListN.{length, drop, replicate, length-append}
+use lib.ListN.{length, replicate, length-append}
 use Rattle.std.proofs.shelf.Lists.{drop-at}
 use Rattle.std.proofs.shelf.Tests.{or-right, cond-true}
-use Rattle.journal.specs.Log.{LogRow, Rising, Shown, Shows, blank, is-blank, log-bytes, look, row-bytes, row-size}
+use Rattle.journal.specs.Log.{LogRow, Rising, Shows, blank, is-blank, log-bytes, look, row-bytes, row-size}
 use Rattle.journal.proofs.Fields.{look-written, length-row}
 
 zeros-blank : (n : ℕ) → is-blank (replicate n 0) ≡ true

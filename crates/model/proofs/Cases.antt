@@ -1,8 +1,7 @@
 -- The eight cases, by computation.
-use mathlib.Core.Path.{_≡_, refl, sym, _∙_, ap, ap₂}
-use mathlib.Core.Bool.{Bool, true, false, cond, not, _&&_}
+use mathlib.Core.Path.{refl, _∙_, ap, ap₂}
+use mathlib.Core.Bool.{Bool, true, cond}
 use Prim.Native.Nat.{ℕ}
-use lib.Dec.{eqb}
 use lib.Count.{ones, onesIn}
 use Rattle.crc32c.specs.Crc.{one-bit, eight-bits}
 use Rattle.table.specs.declared.Entry.{Entry}

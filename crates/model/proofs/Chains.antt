@@ -1,20 +1,19 @@
 -- Chains of rows: under an append, and as get and has walk them.
-use mathlib.Core.Path.{_≡_, refl, sym, _∙_, ap, ap₂, subst}
-use mathlib.Core.Logic.{_⊎_, inl, inr, ⊎-elim}
-use mathlib.Core.Bool.{Bool, true, false, cond, not, _&&_, _||_}
+use mathlib.Core.Path.{_≡_, refl, sym, _∙_, ap, subst}
+use mathlib.Core.Logic.{_⊎_, ⊎-elim}
+use mathlib.Core.Bool.{Bool, true, false, cond, _&&_}
 use mathlib.Core.List.{List, [], _∷_, _++_}
-use Prim.Native.Nat.{ℕ, zero, suc, _+_, _-_, _*_, _^_, _≤_, _<_}
+use Prim.Native.Nat.{ℕ, zero, suc, _+_, _-_, _^_, _≤_, _<_}
 use native.Mathlib.Omega.{arith}
-use lib.Dec.{eqb, ltb, leb}
+use lib.Dec.{eqb, ltb}
 use lib.ListN.{length, take}
 use Rattle.std.specs.shelf.Text.{sameBytes}
 use Rattle.std.specs.declared.option.Option.{Option}
 use Rattle.std.specs.declared.option.Option.the-variants.{Some, None}
 use Rattle.std.specs.declared.result.Result.{Result}
 use Rattle.std.specs.declared.result.Result.the-variants.{Ok, Err}
-use Rattle.std.proofs.shelf.Tests.{eq-eqb, ne-eqb, eqb-true, lt-ltb, ltb-true, and-from, and-parts, and-left, and-right, or-left, or-right, or-cases, cond-true, cond-false, cases-eq, cases-lt, cases-order}
+use Rattle.std.proofs.shelf.Tests.{eq-eqb, ne-eqb, eqb-true, lt-ltb, ltb-true, and-from, and-parts, and-right, or-left, or-right, or-cases, cond-true, cond-false, cases-eq, cases-lt}
 use Rattle.codec.specs.Kinds.{Kinds, Lawful}
-use Rattle.table.specs.declared.Entry.{Entry}
 use Rattle.table.specs.declared.Head.{Head}
 use Rattle.table.specs.declared.Head.the-variants.{Vacant as none, Latest as latest, Equal as equal}
 use Rattle.journal.specs.declared.fault.Cursor.{Cursor}
@@ -24,7 +23,7 @@ use Rattle.model.specs.declared.Fault.the-variants.{NotEarlier}
 use Rattle.model.specs.Common.{last, earlier}
 use Rattle.model.specs.Put.{place-section, place-position}
 use Rattle.model.specs.Lookup.{has-no-next, rows-below, met, walk, walk-from}
-use Rattle.model.specs.Law.{Adds-by, Adds, Met, ends, goes, Met-from}
+use Rattle.model.specs.Law.{Adds-by, Met, ends, goes, Met-from}
 use Rattle.model.proofs.Values.{value-found}
 
 -- ---- rows by position

@@ -1,18 +1,17 @@
 -- A doubling that goes over several syncs, with puts on both sides of its progress and a crash in it.
 use mathlib.Core.Path.{_≡_, refl, ap, subst}
 use mathlib.Core.Bool.{true}
-use mathlib.Core.List.{List, [], _∷_}
-use Prim.Native.Nat.{ℕ, suc, _≤_}
+use mathlib.Core.List.{[], _∷_}
+use Prim.Native.Nat.{ℕ, _≤_}
 use native.Mathlib.Omega.{arith}
 use lib.Count.{ones, onesIn}
 use lib.ListN.{length}
 use Rattle.std.specs.declared.option.Option.the-variants.{Some, None}
 use Rattle.crc32c.specs.Crc.{one-bit, eight-bits}
 use Rattle.codec.specs.Windows.{window-bytes}
-use Rattle.codec.specs.declared.serial.Serial.{Serial}
 use Rattle.table.specs.Entries.{entry-check, entry, empty}
 use Rattle.table.specs.Store.{write}
-use Rattle.journal.specs.Rows.{append, clear, restore, value-check, stored-of, apply-all as apply-journal, sync as sync-sections}
+use Rattle.journal.specs.Rows.{append, clear, restore, value-check, apply-all as apply-journal, sync as sync-sections}
 use Rattle.model.specs.Common.{hash, last}
 use Rattle.model.specs.Runs.{init, put, sync-call, new-ledger, New, Run, begin, _and_, crashed, Crashed}
 use Rattle.model.specs.Cases.{Module-of-windows, no-journal, numbers, after, checkpoint, window, windows}
@@ -117,7 +116,6 @@ a14 = settled 16 (Some (counts wide 8 4 80 7 0 None None)) (entry 3 0 2 0 ∷ en
 sync-14 : after a13 sync-call ≡ a14
 unfolding ones onesIn entry-check one-bit eight-bits value-check hash
 sync-14 = refl
-
 
 none-4 : (s : ℕ) → 1 ≤ s → a4 .journal .rows s ≡ []
 none-4 = zero-alone (a2 .journal .rows) _ (zero-alone (a1 .journal .rows) _ (λ s l. refl))

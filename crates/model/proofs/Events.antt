@@ -1,24 +1,21 @@
 -- A run with every kind of event.
-use mathlib.Core.Path.{_≡_, refl, sym, ap, subst, _∙_}
+use mathlib.Core.Path.{_≡_, refl, ap, subst}
 use mathlib.Core.Logic.{inl, inr}
 use mathlib.Core.Bool.{true, false}
-use mathlib.Core.List.{List, [], _∷_, append-nil}
+use mathlib.Core.List.{List, [], _∷_}
 use Prim.Native.Nat.{ℕ, zero, suc, _≤_, _<_}
 use native.Mathlib.Omega.{arith}
 use lib.Count.{ones, onesIn}
-use lib.ListN.{length, take}
+use lib.ListN.{length}
 use Rattle.std.specs.declared.option.Option.the-variants.{Some, None}
 use Rattle.crc32c.specs.Crc.{one-bit, eight-bits}
-use Rattle.codec.specs.Windows.{window-bytes}
-use Rattle.codec.specs.declared.serial.Serial.{Serial}
-use Rattle.codec.specs.declared.window.Window.{Window}
 use Rattle.table.specs.declared.Entry.{Entry}
 use Rattle.table.specs.Entries.{entry-check, entry, empty}
-use Rattle.table.specs.Store.{Change, write, at, apply-all}
-use Rattle.journal.specs.Rows.{append, restore, value-check, apply-all as apply-journal}
+use Rattle.table.specs.Store.{Change, write, at}
+use Rattle.journal.specs.Rows.{restore, value-check, apply-all as apply-journal}
 use Rattle.model.specs.Common.{hash}
-use Rattle.model.specs.Runs.{Event, broken, init, put, get, get-at, has, sync-call, close, Step, broke, calls, New, Run, begin, _and_, crashed, Crashed, May-hold, open-effect, after-done}
-use Rattle.model.specs.Cases.{Module-of-windows, new-module, numbers, after, opened, putting, left, checkpoint, cursor, window, windows, one, two, three}
+use Rattle.model.specs.Runs.{broken, init, put, get, get-at, has, sync-call, close, Step, broke, calls, New, Run, begin, _and_, crashed, Crashed, May-hold, open-effect, after-done}
+use Rattle.model.specs.Cases.{Module-of-windows, new-module, numbers, after, checkpoint, cursor, window, windows, one, two, three}
 use Rattle.model.specs.Witness.{small, every-kind, Happens}
 use Rattle.model.proofs.Holds.{kept-after}
 use Rattle.model.proofs.Stages.{table-of, settled, counts, stage-0, stage-1, stage-2, stage-3, opened-is, put-1, put-2, sync-3}

@@ -1,39 +1,37 @@
 -- init: at the latest checkpoint it is refused for its settings alone, and gives back what the checkpoint had.
 use mathlib.Core.Path.{_≡_, refl, sym, _∙_, ap, ap₂, subst}
-use mathlib.Core.Logic.{_⊎_, inl, inr, ⊎-elim}
-use mathlib.Core.Bool.{Bool, true, false, cond, not, _&&_, _||_}
+use mathlib.Core.Logic.{_⊎_, inl, ⊎-elim}
+use mathlib.Core.Bool.{Bool, true, false, cond, not}
 use mathlib.Core.List.{List, [], _∷_, _++_}
-use Prim.Native.Nat.{ℕ, zero, suc, _+_, _-_, _*_, _/_, _%_, _^_, _≤_, _<_, min, max}
+use Prim.Native.Nat.{ℕ, zero, suc, _+_, _-_, _*_, _/_, _%_, _^_, _≤_, _<_, min}
 use native.Mathlib.Omega.{arith}
 use native.Mathlib.Nat.{mod-lt, mul-mod-left, mul-le-mul-right}
 use lib.Count.{ones, onesIn}
-use lib.Dec.{eqb, ltb, leb}
-use lib.ListN.{length, set, take, length-set}
+use lib.Dec.{eqb, ltb}
+use lib.ListN.{length, length-set}
 use Rattle.std.specs.declared.option.Option.{Option}
 use Rattle.std.specs.declared.option.Option.the-variants.{Some, None}
-use Rattle.std.proofs.shelf.Tests.{eq-eqb, ne-eqb, eqb-true, eqb-false, lt-ltb, le-ltb, le-leb, lt-leb, cond-true, cond-false, cases-lt, cases-eq, cases-bool, and-from, and-left, leb-false, both-ways, not-from-true, not-true, not-false, or-from}
+use Rattle.std.proofs.shelf.Tests.{eq-eqb, ne-eqb, eqb-true, le-ltb, lt-leb, cond-true, cond-false, cases-eq, and-left, both-ways, not-from-true, not-false, or-from}
 use Rattle.codec.specs.Kinds.{Kinds, record-bytes}
 use Rattle.table.specs.declared.Entry.{Entry}
 use Rattle.table.specs.declared.Head.{Head}
-use Rattle.table.specs.declared.Head.the-variants.{Vacant as none, Latest as latest, Equal as equal}
 use Rattle.table.specs.Entries.{empty, head}
 use Rattle.table.specs.Store.{TableMeaning, Change, write, resize, sync, at, resized, apply-all}
-use Rattle.journal.specs.Rows.{Row, JournalMeaning, JournalChange, restore, clear, kept, none-there, trimmed, apply-all as apply-journal}
+use Rattle.journal.specs.Rows.{Row, JournalMeaning, restore, none-there, trimmed, apply-all as apply-journal}
 use Rattle.model.specs.declared.Settings.{Settings}
 use Rattle.model.specs.declared.Checkpoint.{Checkpoint}
-use Rattle.model.specs.declared.Numbers.{Numbers}
 use Rattle.model.specs.declared.Fault.{Fault}
 use Rattle.model.specs.declared.Fault.the-variants.{InitialSize}
-use Rattle.model.specs.Common.{refuse, _then_, of-journal, each, lowest, or-else, last, power-of-two, table-index, head-at, is-equal}
-use Rattle.model.specs.Init.{is-empty-checkpoint, resumed, settings-fault, start-fault, recover-entry, recovered, recovered-head, empty-entry, empty-pair, recover-stop, fit-length, with-sync, recover-table, recover-by, start-numbers, start-table, start-journal}
+use Rattle.model.specs.Common.{refuse, _then_, of-journal, each, lowest, or-else, last, power-of-two, table-index, head-at}
+use Rattle.model.specs.Init.{is-empty-checkpoint, resumed, settings-fault, start-fault, recover-entry, recovered, empty-entry, empty-pair, recover-stop, fit-length, with-sync, recover-table, recover-by, start-numbers, start-table, start-journal}
 use Rattle.model.specs.Law.{Met-from, ledger-trail}
 use Rattle.model.proofs.Choice.{Pair, neither, recovered-fits, Recovered-pair, pair-is-equal, pair-later, emptied-loose, Loose}
-use Rattle.model.proofs.Replay.{changed-all, changed-append, apply-cells, at-set, at-set-other, at-resized, at-added, length-resized}
-use Rattle.model.proofs.Safe.{Safe, now-fits, now-long, All-harmless, Harmless, harmless-append}
+use Rattle.model.proofs.Replay.{changed-all, changed-append, at-set, at-set-other, at-resized, at-added, length-resized}
+use Rattle.model.proofs.Safe.{now-fits, now-long, All-harmless, harmless-append}
 use Rattle.model.proofs.Chains.{met-from-more, extends-same}
 use Rattle.model.proofs.Chunk.{Sound}
 use Rattle.model.proofs.Holds.{Open, Based, Harmless-to, kept-after}
-use Rattle.model.proofs.Puts.{refuse-no, then-left, then-right}
+use Rattle.model.proofs.Puts.{refuse-no, then-left}
 
 pub power-positive : (n : ℕ) → power-of-two n ≡ true → 0 < n
 unfolding ones onesIn

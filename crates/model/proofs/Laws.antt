@@ -1,18 +1,17 @@
 -- The law, of every run.
-use mathlib.Core.Path.{_≡_, refl, sym, _∙_, ap, ap₂, subst}
+use mathlib.Core.Path.{_≡_, refl, sym, _∙_, ap, subst}
 use mathlib.Core.Logic.{_⊎_, inl, inr, ⊎-elim}
-use mathlib.Core.Bool.{Bool, true, false, cond, not, _&&_, _||_}
-use mathlib.Core.List.{List, [], _∷_, _++_}
-use Prim.Native.Nat.{ℕ, zero, suc, _+_, _*_, _≤_, _<_}
+use mathlib.Core.Bool.{Bool, true, false, not, _||_}
+use mathlib.Core.List.{List, [], _∷_}
+use Prim.Native.Nat.{ℕ, _*_, _≤_}
 use native.Mathlib.Omega.{arith}
 use native.Mathlib.Nat.{mod-lt}
-use lib.Dec.{eqb, ltb, leb}
-use lib.ListN.{length}
+use lib.Dec.{eqb, ltb}
 use Rattle.std.specs.declared.option.Option.{Option}
 use Rattle.std.specs.declared.option.Option.the-variants.{Some, None}
 use Rattle.std.specs.declared.result.Result.{Result}
 use Rattle.std.specs.declared.result.Result.the-variants.{Ok, Err}
-use Rattle.std.proofs.shelf.Tests.{lt-leb, cond-false, both-ways}
+use Rattle.std.proofs.shelf.Tests.{both-ways}
 use Rattle.codec.specs.Kinds.{Kinds, Lawful, record-bytes}
 use Rattle.table.specs.declared.Entry.{Entry}
 use Rattle.table.specs.declared.TableFault.the-variants.{TooMany}
@@ -21,7 +20,7 @@ use Rattle.table.specs.declared.Head.the-variants.{Vacant as none, Latest as la
 use Rattle.table.specs.Store.{TableMeaning, at, apply-all}
 use Rattle.journal.specs.declared.fault.Cursor.{Cursor}
 use Rattle.journal.specs.declared.fault.JournalFault.{JournalFault}
-use Rattle.journal.specs.Rows.{Row, JournalMeaning, row-at, stored-of, checked, value-answer, apply-all as apply-journal}
+use Rattle.journal.specs.Rows.{Row, JournalMeaning, row-at, stored-of, checked, apply-all as apply-journal}
 use Rattle.std.specs.shelf.Text.{sameBytes}
 use Rattle.model.proofs.Values.{checked-stored}
 use Rattle.model.specs.declared.Settings.{Settings}
@@ -29,17 +28,17 @@ use Rattle.model.specs.declared.Checkpoint.{Checkpoint}
 use Rattle.model.specs.declared.Numbers.{Numbers}
 use Rattle.model.specs.declared.Fault.{Fault}
 use Rattle.model.specs.declared.Fault.the-variants.{InitialSize, Frequency, ChunkSize, Table}
-use Rattle.model.specs.Common.{power-of-two, refuse, _then_, unless, answered, equal-at, hash, table-index, head-at, is-equal, pair-past, pair-equal, past-end}
+use Rattle.model.specs.Common.{power-of-two, refuse, _then_, unless, answered, equal-at, hash, table-index, head-at, pair-past, pair-equal}
 use Rattle.model.specs.Faults.{fault-number}
-use Rattle.model.specs.Init.{settings-fault, start-fault, stop-fault, start-numbers, init-answer, resumed}
+use Rattle.model.specs.Init.{settings-fault, start-fault, stop-fault, init-answer, resumed}
 use Rattle.model.specs.Lookup.{has-no-next, walk-from, found-by, find-key, lifted, get-found, get-answer, has-found, has-answer}
 use Rattle.model.specs.Put.{put-fault}
-use Rattle.model.specs.Sync.{close-fault, epoch-fault, chunk-fault, starts, start, chunk-numbers, next-epoch, sync-range, sync-changes, sync-fault, sync-answer, sync-table, sync-numbers, synced, checkpoint-at}
-use Rattle.model.specs.Runs.{Module, Event, Run, is-ok}
+use Rattle.model.specs.Sync.{close-fault, epoch-fault, chunk-fault, start, sync-range, sync-changes, sync-fault, synced}
+use Rattle.model.specs.Runs.{Module}
 use Rattle.model.specs.Law.{Trail, Adds-by, Adds, Met, ends, goes, Met-from, ledger-trail, first, is-there, Outside, Led, Law}
-use Rattle.model.proofs.Replay.{changed-all, apply-cells}
+use Rattle.model.proofs.Replay.{apply-cells}
 use Rattle.model.proofs.Chains.{Finds, met-walk-from, met-from-more, extends-same}
-use Rattle.model.proofs.Holds.{Open, Based, Holds}
+use Rattle.model.proofs.Holds.{Open, Holds}
 use Rattle.model.proofs.Puts.{then-left}
 use Rattle.model.proofs.Syncs.{table-synced, epoch-early, settled-trails, rows-synced}
 use Rattle.model.proofs.Inits.{no-stop, not-empty, no-fault}

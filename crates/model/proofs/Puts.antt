@@ -1,42 +1,42 @@
 -- An accepted put keeps the invariant.
 use mathlib.Core.Path.{_≡_, refl, sym, _∙_, ap, ap₂, subst}
 use mathlib.Core.Logic.{_⊎_, inl, inr, ⊎-elim}
-use mathlib.Core.Bool.{Bool, true, false, cond, not, _&&_, _||_}
-use mathlib.Core.List.{List, [], _∷_, _++_}
-use Prim.Native.Nat.{ℕ, zero, suc, _+_, _-_, _*_, _/_, _%_, _^_, _≤_, _<_, min, max}
+use mathlib.Core.Bool.{Bool, true, false, cond, _&&_}
+use mathlib.Core.List.{List, [], _∷_}
+use Prim.Native.Nat.{ℕ, suc, _+_, _-_, _*_, _%_, _^_, _≤_, _<_}
 use native.Mathlib.Omega.{arith}
 use native.Mathlib.Nat.{mod-lt, mul-add}
 use lib.Dec.{eqb, ltb, leb}
-use lib.ListN.{length, set, length-append, length-set}
+use lib.ListN.{length, set, length-append}
 use Rattle.std.specs.shelf.Text.{sameBytes}
 use Rattle.std.specs.declared.option.Option.{Option}
 use Rattle.std.specs.declared.option.Option.the-variants.{Some, None}
 use Rattle.std.proofs.shelf.Equals.{sameBytes-decides}
-use Rattle.std.proofs.shelf.Tests.{eq-eqb, ne-eqb, eqb-true, lt-ltb, le-ltb, ltb-true, ltb-false, cond-true, cond-false, cases-eq, cases-lt, cases-bool, and-parts, and-right, leb-true, not-false, both-ways}
+use Rattle.std.proofs.shelf.Tests.{ne-eqb, ltb-true, ltb-false, cond-false, cases-eq, cases-bool, and-parts, and-right, leb-true}
 use Rattle.codec.specs.Kinds.{Kinds, record-bytes}
 use Rattle.table.specs.declared.Entry.{Entry}
 use Rattle.table.specs.declared.Head.{Head}
 use Rattle.table.specs.declared.Head.the-variants.{Latest as latest}
-use Rattle.table.specs.Entries.{head, entry, whole, empty, slot}
-use Rattle.table.specs.Store.{TableMeaning, Change, write, at, slot-0, slot-1}
-use Rattle.journal.specs.Rows.{Row, JournalMeaning, JournalChange, append, append-fault, appended, in-bounds, later-than, stored-of, apply as apply-row}
+use Rattle.table.specs.Entries.{head, empty}
+use Rattle.table.specs.Store.{TableMeaning, Change, write, at}
+use Rattle.journal.specs.Rows.{Row, JournalMeaning, JournalChange, append, append-fault, appended, in-bounds, later-than, apply as apply-row}
 use Rattle.model.specs.declared.Checkpoint.{Checkpoint}
 use Rattle.model.specs.declared.Numbers.{Numbers}
 use Rattle.model.specs.declared.Fault.{Fault}
-use Rattle.model.specs.declared.Fault.the-variants.{LastSection, Journal}
+use Rattle.model.specs.declared.Fault.the-variants.{LastSection}
 use Rattle.journal.specs.declared.fault.JournalFault.{JournalFault}
 use Rattle.journal.specs.declared.fault.JournalFault.the-variants.{Below, Full}
 use Rattle.model.specs.Common.{refuse, _then_, of-journal, last, hash, table-index, head-at, past-end, pair-past, pair-equal}
 use Rattle.model.specs.Init.{recovered}
-use Rattle.model.specs.Put.{above, place-section, place-position, extended, is-full, put-section, put-index, put-slot, put-head, put-added, mirrors, put-image, put-entry, put-fault, after-put, put-offset, put-size}
+use Rattle.model.specs.Put.{above, place-section, place-position, extended, is-full, put-section, put-index, put-slot, put-head, put-added, mirrors, put-image, put-entry, put-fault, after-put, put-size}
 use Rattle.model.specs.Law.{Met-from, ledger-trail}
 use Rattle.model.proofs.Choice.{Pair, Written, write-chosen, with-0, with-1, entry-whole, recovered-later, chosen-loose}
-use Rattle.model.proofs.Replay.{changed-all, at-set, at-set-other}
+use Rattle.model.proofs.Replay.{changed-all}
 use Rattle.model.proofs.Chains.{met-put, row-of, met-from-more, extends-append, appended-here, appended-there}
 use Rattle.model.proofs.Moves.{Pair-written, pair-written, slot-two}
-use Rattle.model.proofs.Safe.{Safe, now-fits, All-harmless, Harmless}
+use Rattle.model.proofs.Safe.{now-fits, All-harmless, Harmless}
 use Rattle.model.proofs.Chunk.{Sound, Images, past, harmless-slot}
-use Rattle.model.proofs.Holds.{Open, Based, Within, Range-ok, All-row-harmless, Harmless-to}
+use Rattle.model.proofs.Holds.{Open, Based, Within, Range-ok, Harmless-to}
 
 -- ---- tests that passed
 

@@ -1,35 +1,33 @@
 -- What may still stop a put, a sync or a close of a freezer that a run led to.
 use mathlib.Core.Path.{_≡_, refl, sym, _∙_, ap, ap₂, subst}
 use mathlib.Core.Logic.{_⊎_, inl, inr, ⊎-elim}
-use mathlib.Core.Bool.{Bool, true, false, cond, not, _&&_, _||_}
-use mathlib.Core.List.{List, [], _∷_, _++_}
-use Prim.Native.Nat.{ℕ, zero, suc, _+_, _-_, _*_, _%_, _≤_, _<_, min, max}
+use mathlib.Core.Bool.{Bool, true, false, cond, _&&_}
+use mathlib.Core.List.{List}
+use Prim.Native.Nat.{ℕ, suc, _+_, _-_, _*_, _≤_, _<_}
 use native.Mathlib.Nat.{mod-lt}
 use native.Mathlib.Omega.{arith}
-use lib.Dec.{eqb, ltb, leb}
+use lib.Dec.{ltb, leb}
 use lib.ListN.{length}
 use Rattle.std.specs.declared.option.Option.{Option}
 use Rattle.std.specs.declared.option.Option.the-variants.{Some, None}
 use Rattle.std.proofs.shelf.Tests.{and-right, le-ltb, lt-leb, cond-false, cases-lt}
 use Rattle.codec.specs.Kinds.{Kinds, record-bytes}
 use Rattle.table.specs.declared.Entry.{Entry}
-use Rattle.table.specs.declared.TableFault.the-variants.{PastEnd}
-use Rattle.table.specs.Entries.{empty, head}
+use Rattle.table.specs.Entries.{head}
 use Rattle.table.specs.Store.{TableMeaning, at}
-use Rattle.journal.specs.declared.fault.JournalFault.{JournalFault}
 use Rattle.journal.specs.declared.fault.JournalFault.the-variants.{Full}
 use Rattle.journal.specs.Rows.{JournalMeaning, append-fault, in-bounds, later-than}
 use Rattle.model.specs.declared.Checkpoint.{Checkpoint}
 use Rattle.model.specs.declared.Numbers.{Numbers}
 use Rattle.model.specs.declared.Fault.{Fault}
-use Rattle.model.specs.declared.Fault.the-variants.{LastSection, LastEpoch, Table, Journal}
-use Rattle.model.specs.Common.{refuse, _then_, of-journal, last, equal-at, hash, head-at, is-equal, lowest, past-end, pair-past, pair-equal}
+use Rattle.model.specs.declared.Fault.the-variants.{LastSection, LastEpoch, Journal}
+use Rattle.model.specs.Common.{refuse, _then_, of-journal, last, equal-at, hash, head-at, is-equal, past-end, pair-past, pair-equal}
 use Rattle.model.specs.Faults.{fault-number}
-use Rattle.model.specs.Put.{above, is-full, put-section, put-index, put-slot, mirrors, put-image, put-size, put-fault}
-use Rattle.model.specs.Sync.{should-resize, chunk-start, chunk-end, range-past, range-equal, epoch-fault, starts, start, chunk-fault, sync-fault, pairs-read, close-fault}
+use Rattle.model.specs.Put.{above, is-full, put-section, put-index, mirrors, put-image, put-size, put-fault}
+use Rattle.model.specs.Sync.{should-resize, chunk-start, chunk-end, range-past, range-equal, epoch-fault, starts, chunk-fault, sync-fault, pairs-read, close-fault}
 use Rattle.model.proofs.Choice.{pair-is-equal}
 use Rattle.model.proofs.Moves.{slot-two}
-use Rattle.model.proofs.Chunk.{Sound, Images}
+use Rattle.model.proofs.Chunk.{Images}
 use Rattle.model.proofs.Holds.{Open}
 use Rattle.model.proofs.Inits.{lowest-none}
 use Rattle.model.proofs.Puts.{section-up, sound-long}
@@ -153,9 +151,9 @@ module _ {K V : Type 0} (kinds : Kinds K V) (v : Numbers) (t : TableMeaning) (j 
   read-none (Some p) h =
       both-none _ _ (past-none 0 (2 * (2 * n)) (omega (arith, h .1)))
       (equal-none 0 (2 * n) (λ m l.
-        ⊎-elim (λ (a : m < n). pair-ok m a)
-        (λ (a : n ≤ m). let same : n + (m - n) ≡ m = omega arith in subst (λ (w : ℕ). is-equal (head-at cells w) ≡ false) same (image-ok p (m - n) h (omega arith)))
-        (cases-lt m n)))
+      ⊎-elim (λ (a : m < n). pair-ok m a)
+      (λ (a : n ≤ m). let same : n + (m - n) ≡ m = omega arith in subst (λ (w : ℕ). is-equal (head-at cells w) ≡ false) same (image-ok p (m - n) h (omega arith)))
+      (cases-lt m n)))
 
   pub close-refused : (f : Fault) → close-fault v t ≡ Some f → fault-number f ≡ 12
   close-refused f e = epoch-number _ f (read-none (v .«resize_progress») (o .sound .images)) e

@@ -1,25 +1,21 @@
 -- A value that was stored is read again.
-use mathlib.Core.Path.{_≡_, refl, sym, _∙_, ap, ap₂, subst}
-use mathlib.Core.Bool.{Bool, true, false, cond, not, _&&_, _||_}
-use mathlib.Core.List.{List, [], _∷_, _++_}
-use Prim.Native.Nat.{ℕ, zero, suc, _+_, _-_, _*_, _/_, _%_, _^_, _≤_, _<_}
+use mathlib.Core.Path.{_≡_, refl, sym, _∙_, ap}
+use mathlib.Core.Bool.{true, false, _&&_}
+use mathlib.Core.List.{List, [], _∷_}
+use Prim.Native.Nat.{ℕ, zero, suc, _+_, _-_, _^_, _<_}
 use native.Mathlib.Omega.{arith}
-use lib.Dec.{eqb, ltb, leb}
+use lib.Dec.{eqb}
 use lib.ListN.{length, take, drop, length-append}
 use Rattle.std.specs.shelf.Digits.{Under}
-use Rattle.std.specs.declared.option.Option.{Option}
-use Rattle.std.specs.declared.option.Option.the-variants.{Some, None}
-use Rattle.std.specs.declared.result.Result.{Result}
-use Rattle.std.specs.declared.result.Result.the-variants.{Ok, Err}
+use Rattle.std.specs.declared.option.Option.the-variants.{Some}
+use Rattle.std.specs.declared.result.Result.the-variants.{Ok}
 use Rattle.std.proofs.shelf.Lists.{take-at, drop-at}
-use Rattle.std.proofs.shelf.Tests.{eq-eqb, ne-eqb, and-from, and-left, and-right, cond-true, cond-false, cases-eq}
+use Rattle.std.proofs.shelf.Tests.{eq-eqb, ne-eqb, and-from, and-left, and-right, cond-true, cond-false}
 use Rattle.crc32c.proofs.Fits.{crc-fits}
 use Rattle.codec.specs.Bytes.{be, number}
 use Rattle.codec.specs.Kinds.{Kinds, Lawful}
 use Rattle.codec.proofs.Rounds.{number-be}
 use Rattle.journal.specs.declared.fault.Cursor.{Cursor}
-use Rattle.journal.specs.declared.fault.JournalFault.{JournalFault}
-use Rattle.journal.specs.declared.fault.JournalFault.the-variants.{Check}
 use Rattle.journal.specs.Rows.{Row, JournalMeaning, row-at, stored-bytes, stored-at, stored-of, encoding-of, check-of, value-check, value-answer, value-there, checked, decoded}
 
 check-fits : (bs : List ℕ) → Under 256 bs → value-check bs < 2 ^ 32

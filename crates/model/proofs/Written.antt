@@ -13,7 +13,7 @@ use Rattle.codec.specs.declared.window.Window.{Window}
 use Rattle.table.specs.Store.{Change, write, resize, sync}
 use Rattle.journal.specs.Rows.{Row, appended}
 use Rattle.model.specs.declared.Numbers.{Numbers}
-use Rattle.model.specs.Runs.{Module, Event, done, Call, Step, did, calls, opens, init, open-effect, init-effect, after-done, Crashed, Among, lengths, taken-back}
+use Rattle.model.specs.Runs.{Module, done, Call, Step, did, calls, opens, init, open-effect, init-effect, after-done, Crashed, Among, lengths, taken-back}
 use Rattle.model.specs.declared.Settings.{Settings}
 use Rattle.model.specs.Cases.{Module-of-windows, windows}
 use Rattle.model.proofs.Chains.{appended-there}

@@ -1,6 +1,6 @@
 -- Eight worked cases, of the definitions that the calls are proved against.
 use mathlib.Core.Path.{_≡_, refl}
-use mathlib.Core.Bool.{Bool, true, false}
+use mathlib.Core.Bool.{true, false}
 use mathlib.Core.List.{List, [], _∷_}
 use Prim.Native.Nat.{ℕ, _+_, _*_, _^_, _<_}
 use lib.Dec.{lit<}
@@ -20,12 +20,11 @@ use Rattle.codec.specs.declared.sealed.Sealed.{Sealed}
 use Rattle.codec.specs.declared.serial.Serial.{Serial}
 use Rattle.codec.specs.declared.window.Window.{Window}
 use Rattle.table.specs.declared.Entry.{Entry}
-use Rattle.table.specs.declared.Head.{Head}
 use Rattle.table.specs.declared.Head.the-variants.{Latest}
 use Rattle.table.specs.Entries.{entry, empty, slot, head, failing}
-use Rattle.table.specs.Store.{TableMeaning, Change, write, sync, slot-0, slot-1}
+use Rattle.table.specs.Store.{TableMeaning, write, sync, slot-0, slot-1}
 use Rattle.journal.specs.declared.fault.Cursor.{Cursor}
-use Rattle.journal.specs.Rows.{JournalMeaning, JournalChange, append, restore}
+use Rattle.journal.specs.Rows.{JournalMeaning, append, restore}
 use Rattle.model.specs.declared.Settings.{Settings}
 use Rattle.model.specs.declared.Checkpoint.{Checkpoint}
 use Rattle.model.specs.declared.Numbers.{Numbers}

@@ -1,25 +1,20 @@
 -- The law of the trails.
 use mathlib.Core.Path.{_≡_}
 use mathlib.Core.Logic.{_⊎_}
-use mathlib.Core.Bool.{Bool, true, false, not, _&&_, _||_, cond}
-use mathlib.Core.List.{List, [], _∷_, _++_}
-use Prim.Native.Nat.{ℕ, zero, suc, _+_, _-_, _*_, _≤_, _<_}
-use lib.Dec.{eqb, ltb, leb}
-use lib.ListN.{length}
+use mathlib.Core.Bool.{Bool, true, false, cond}
+use mathlib.Core.List.{List, [], _∷_}
+use Prim.Native.Nat.{ℕ, _+_, _-_, _*_, _≤_, _<_}
 use Rattle.std.specs.shelf.Text.{sameBytes}
 use Rattle.std.specs.declared.option.Option.{Option}
 use Rattle.std.specs.declared.option.Option.the-variants.{Some, None}
-use Rattle.std.specs.declared.result.Result.{Result}
 use Rattle.std.specs.declared.result.Result.the-variants.{Ok, Err}
 use Rattle.codec.specs.Kinds.{Kinds, record-bytes}
-use Rattle.table.specs.declared.Entry.{Entry}
 use Rattle.table.specs.declared.Head.{Head}
 use Rattle.table.specs.declared.Head.the-variants.{Vacant, Latest, Equal}
 use Rattle.table.specs.Store.{TableMeaning, at, apply-all}
 use Rattle.journal.specs.Rows.{Row, JournalMeaning, row-at, stored-of, apply-all as apply-journal}
 use Rattle.model.specs.declared.Settings.{Settings}
 use Rattle.model.specs.declared.Numbers.{Numbers}
-use Rattle.model.specs.declared.Checkpoint.{Checkpoint}
 use Rattle.model.specs.declared.Fault.{Fault}
 use Rattle.model.specs.Common.{earlier, table-index, head-at}
 use Rattle.model.specs.Faults.{fault-number}
@@ -27,7 +22,7 @@ use Rattle.model.specs.Lookup.{has-no-next, get-answer, has-answer}
 use Rattle.model.specs.Init.{init-answer}
 use Rattle.model.specs.Put.{put-answer}
 use Rattle.model.specs.Sync.{close-answer, sync-answer, sync-table, sync-journal, sync-numbers, start, chunk-end}
-use Rattle.model.specs.Runs.{Ledger, Module, Event, done, Call, sync-call, Run, is-ok}
+use Rattle.model.specs.Runs.{Module, Event, Run, is-ok}
 
 -- ---- trails
 

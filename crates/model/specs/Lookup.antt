@@ -1,8 +1,8 @@
 -- Freezer::get and Freezer::has.
-use mathlib.Core.Bool.{Bool, true, false, not, _&&_, _||_, cond}
-use mathlib.Core.List.{List, [], _∷_, _++_}
-use Prim.Native.Nat.{ℕ, zero, suc, _+_, _-_, _*_}
-use lib.Dec.{eqb, ltb, leb}
+use mathlib.Core.Bool.{Bool, true, false, _&&_, cond}
+use mathlib.Core.List.{List}
+use Prim.Native.Nat.{ℕ, zero, suc, _+_, _-_}
+use lib.Dec.{eqb}
 use lib.ListN.{length, take}
 use Rattle.std.specs.shelf.Text.{sameBytes}
 use Rattle.std.specs.declared.option.Option.{Option}
@@ -19,8 +19,8 @@ use Rattle.journal.specs.declared.fault.JournalFault.the-variants.{NoRow}
 use Rattle.journal.specs.Rows.{Row, JournalMeaning, row-at, stored-bytes, value-answer}
 use Rattle.model.specs.declared.Numbers.{Numbers}
 use Rattle.model.specs.declared.Fault.{Fault}
-use Rattle.model.specs.declared.Fault.the-variants.{NotEarlier, EqualEpochs, Journal}
-use Rattle.model.specs.Common.{refuse, _then_, last, earlier, table-index, head-at, pair-past, pair-equal}
+use Rattle.model.specs.declared.Fault.the-variants.{NotEarlier, Journal}
+use Rattle.model.specs.Common.{_then_, last, earlier, table-index, head-at, pair-past, pair-equal}
 
 abbrev pub has-no-next : {K : Type 0} → Row K → Bool
 has-no-next r = eqb (r .next-section) last && eqb (r .next-position) last

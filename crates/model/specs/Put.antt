@@ -1,9 +1,9 @@
 -- Freezer::put.
-use mathlib.Core.Bool.{Bool, true, false, not, _&&_, _||_, cond}
-use mathlib.Core.List.{List, [], _∷_, _++_}
-use Prim.Native.Nat.{ℕ, zero, suc, _+_, _-_, _*_, _/_, _%_, _^_, min}
+use mathlib.Core.Bool.{Bool, false, _&&_, cond}
+use mathlib.Core.List.{List, [], _∷_}
+use Prim.Native.Nat.{ℕ, _+_, _-_, _*_, min}
 use lib.Dec.{eqb, ltb, leb}
-use lib.ListN.{length, take}
+use lib.ListN.{length}
 use Rattle.std.specs.declared.option.Option.{Option}
 use Rattle.std.specs.declared.option.Option.the-variants.{Some, None}
 use Rattle.std.specs.declared.result.Result.{Result}
@@ -11,7 +11,7 @@ use Rattle.codec.specs.Kinds.{Kinds, record-bytes}
 use Rattle.table.specs.declared.Entry.{Entry}
 use Rattle.table.specs.declared.Head.{Head}
 use Rattle.table.specs.declared.Head.the-variants.{Vacant, Latest, Equal}
-use Rattle.table.specs.Entries.{head, entry, slot}
+use Rattle.table.specs.Entries.{entry, slot}
 use Rattle.table.specs.Store.{TableMeaning, Change, write, slot-0, slot-1}
 use Rattle.journal.specs.declared.fault.Cursor.{Cursor}
 use Rattle.journal.specs.Rows.{JournalMeaning, JournalChange, append, append-fault, value-end, stored-of}

@@ -1,9 +1,9 @@
 -- Runs: calls that were done, calls that a crash broke off, crashes; beside them the ledger.
 use mathlib.Core.Path.{_≡_}
 use mathlib.Core.Logic.{_⊎_}
-use mathlib.Core.Bool.{Bool, true, false, not, _&&_, _||_, cond}
+use mathlib.Core.Bool.{Bool, true, false, _&&_, _||_, cond}
 use mathlib.Core.List.{List, [], _∷_, _++_}
-use Prim.Native.Nat.{ℕ, zero, suc, _+_, _-_, _*_, _≤_, _<_}
+use Prim.Native.Nat.{ℕ, suc, _+_, _-_, _≤_, _<_}
 use lib.Dec.{eqb, ltb, leb}
 use lib.ListN.{length, take}
 use Rattle.std.specs.declared.option.Option.{Option}
@@ -13,7 +13,7 @@ use Rattle.std.specs.declared.result.Result.the-variants.{Ok, Err}
 use Rattle.codec.specs.Kinds.{Kinds, record-bytes}
 use Rattle.table.specs.declared.Entry.{Entry}
 use Rattle.table.specs.Entries.{empty, failing}
-use Rattle.table.specs.Store.{TableMeaning, Change, write, resize, sync, syncs, at, apply, apply-all}
+use Rattle.table.specs.Store.{TableMeaning, Change, write, resize, sync, syncs, at, apply-all}
 use Rattle.journal.specs.declared.fault.Cursor.{Cursor}
 use Rattle.journal.specs.Rows.{Row, JournalMeaning, JournalChange, apply-all as apply-journal}
 use Rattle.model.specs.declared.Settings.{Settings}

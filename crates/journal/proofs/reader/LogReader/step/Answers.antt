@@ -4,7 +4,7 @@ use mathlib.Core.List.{List}
 use Prim.Native.Nat.{ℕ, _+_}
 use native.Mathlib.Omega.{arith}
 use denote.Ref.{RefT}
-use lib.ListN.{drop, length, length-drop}
+use lib.ListN.{length, length-drop}
 use Rattle.std.proofs.shelf.Lists.{take-rest}
 use Rattle.journal.specs.declared.step.Step.{Step}
 use Rattle.journal.specs.declared.step.Step.the-variants.{Row, Blank, Spoiled}
