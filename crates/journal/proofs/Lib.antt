@@ -1,3 +1,3 @@
-pub mod Pieces
+pub mod Lengths
 pub mod Fields
 pub mod ReadBack

@@ -9,6 +9,7 @@ use Rattle.std.specs.declared.option.Option.the-variants.{Some, None}
 use Rattle.std.specs.declared.result.Result.{Result}
 use Rattle.std.specs.declared.result.Result.the-variants.{Ok, Err}
 use Rattle.crc32c.specs.Crc.{crc}
+use Rattle.codec.specs.Asked.{noted}
 use Rattle.codec.specs.Bytes.{be, number}
 use Rattle.journal.specs.declared.fault.Cursor.{Cursor}
 use Rattle.journal.specs.declared.fault.JournalFault.{JournalFault}
@@ -49,10 +50,6 @@ encoding-of stored = take (length stored - 4) stored
 
 abbrev pub check-of : List ℕ → ℕ
 check-of stored = number (drop (length stored - 4) stored)
-
-abbrev pub noted : {A : Type 0} → A → Option (List A) → Option (List A)
-noted c None = None
-noted c (Some cs) = Some (cs ++ (c ∷ []))
 
 module _ {K : Type 0} where
   -- the stored bytes of rows

@@ -1,22 +1,21 @@
 -- The eight cases, by computation.
-use mathlib.Core.Path.{refl, _∙_, ap, ap₂}
-use mathlib.Core.Bool.{Bool, true, cond}
+use mathlib.Core.Path.{refl, _∙_, ap}
+use mathlib.Core.Bool.{true, cond}
 use Prim.Native.Nat.{ℕ}
 use lib.Count.{ones, onesIn}
 use Rattle.crc32c.specs.Crc.{one-bit, eight-bits}
-use Rattle.table.specs.declared.Entry.{Entry}
-use Rattle.table.specs.Entries.{entry-check, entry, head-by}
+use Rattle.table.specs.declared.entry.Entry.{Entry}
+use Rattle.table.specs.Entries.{entry-check}
 use Rattle.std.specs.declared.option.Option.the-variants.{Some, None}
 use Rattle.model.specs.declared.Fault.the-variants.{EqualEpochs}
-use native.Mathlib.Omega.{arith}
-use Rattle.model.proofs.Choice.{entry-whole, failing-whole}
 use Rattle.journal.specs.Rows.{value-check}
 use Rattle.model.specs.Common.{hash, is-equal}
+use Rattle.table.proofs.Spared.{choices}
 use Rattle.table.specs.Store.{slot-0, slot-1}
 use Rattle.model.specs.Init.{init-table, init-journal}
 use Rattle.model.specs.Put.{put-table, put-journal}
 use Rattle.model.proofs.Stages.{opened-is, put-1, two-puts-is, two-synced-is, third-is}
-use Rattle.model.specs.Cases.{Module-of-windows, windows, window, one, two, three, settings, numbers, putting, syncing, cursor-of, checkpoint-of, left, third-index, Case-1, Case-2, Case-3, Case-4, Case-5, Case-6, Case-7, Case-8, Eight-cases}
+use Rattle.model.specs.Cases.{Module-of-windows, windows, window, one, two, three, settings, numbers, putting, syncing, cursor-of, checkpoint-of, left, third-index, Case-1, Case-2, Case-3, Case-4, Case-6, Case-7, Case-8, Eight-cases}
 
 case-1 : Case-1
 unfolding ones onesIn
@@ -25,9 +24,6 @@ case-1 = record { accepted = refl; first = ap checkpoint-of opened-is; next = ap
 case-6 : Case-6
 unfolding ones onesIn
 case-6 = record { passes = refl; refused = refl }
-
-case-5 : (s p a s′ p′ a′ : ℕ) → Case-5 s p a s′ p′ a′
-case-5 s p a s′ p′ a′ = record { older-first = refl; older-second = refl; same-first = refl; same-second = refl }
 
 case-8 : Case-8
 case-8 = record { size = refl; passes = refl; refused = refl; read = refl; unread = refl }
@@ -58,11 +54,9 @@ case-3 = record {
 }
 
 case-7 : (s p a s′ p′ a′ : ℕ) (e : Entry) → Case-7 s p a s′ p′ a′ e
-case-7 s p a s′ p′ a′ e = record {
-  refused = ap₂ (λ (x y : Bool). cond (is-equal (head-by x y (entry 5 s p a) (entry 5 s′ p′ a′))) (Some (EqualEpochs 0)) None) (entry-whole 5 s p a (omega arith)) (entry-whole 5 s′ p′ a′ (omega arith));
-  first-fails = λ h. ap₂ (λ (x y : Bool). head-by x y e (entry 5 s p a)) (failing-whole e h) (entry-whole 5 s p a (omega arith));
-  second-fails = λ h. ap₂ (λ (x y : Bool). head-by x y (entry 5 s p a) e) (entry-whole 5 s p a (omega arith)) (failing-whole e h);
-}
+case-7 s p a s′ p′ a′ e =
+    let heads = choices .heads s p a s′ p′ a′ e in
+    record { refused = ap (λ h. cond (is-equal h) (Some (EqualEpochs 0)) None) (heads .refused); heads = heads }
 
 pub eight-cases : Eight-cases
 eight-cases = record {
@@ -70,7 +64,7 @@ eight-cases = record {
   case-2 = case-2;
   case-3 = case-3;
   case-4 = case-4;
-  case-5 = case-5;
+  case-5 = choices .slots;
   case-6 = case-6;
   case-7 = case-7;
   case-8 = case-8;

@@ -14,8 +14,8 @@ use Rattle.std.specs.declared.result.Result.{Result}
 use Rattle.std.specs.declared.result.Result.the-variants.{Ok, Err}
 use Rattle.std.proofs.shelf.Tests.{eq-eqb, ne-eqb, eqb-true, lt-ltb, ltb-true, and-from, and-parts, and-right, or-left, or-right, or-cases, cond-true, cond-false, cases-eq, cases-lt}
 use Rattle.codec.specs.Kinds.{Kinds, Lawful}
-use Rattle.table.specs.declared.Head.{Head}
-use Rattle.table.specs.declared.Head.the-variants.{Vacant as none, Latest as latest, Equal as equal}
+use Rattle.table.specs.declared.pair.Head.{Head}
+use Rattle.table.specs.declared.pair.Head.the-variants.{Vacant as none, Latest as latest, Equal as equal}
 use Rattle.journal.specs.declared.fault.Cursor.{Cursor}
 use Rattle.journal.specs.Rows.{Row, JournalMeaning, row-at, stored-bytes, stored-of, appended, value-answer}
 use Rattle.model.specs.declared.Fault.{Fault}

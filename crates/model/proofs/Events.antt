@@ -9,7 +9,7 @@ use lib.Count.{ones, onesIn}
 use lib.ListN.{length}
 use Rattle.std.specs.declared.option.Option.the-variants.{Some, None}
 use Rattle.crc32c.specs.Crc.{one-bit, eight-bits}
-use Rattle.table.specs.declared.Entry.{Entry}
+use Rattle.table.specs.declared.entry.Entry.{Entry}
 use Rattle.table.specs.Entries.{entry-check, entry, empty}
 use Rattle.table.specs.Store.{Change, write, at}
 use Rattle.journal.specs.Rows.{restore, value-check, apply-all as apply-journal}

@@ -13,8 +13,8 @@ use Rattle.std.specs.declared.option.Option.{Option}
 use Rattle.std.specs.declared.option.Option.the-variants.{Some, None}
 use Rattle.std.proofs.shelf.Tests.{eq-eqb, ne-eqb, eqb-true, le-ltb, lt-leb, cond-true, cond-false, cases-eq, and-left, both-ways, not-from-true, not-false, or-from}
 use Rattle.codec.specs.Kinds.{Kinds, record-bytes}
-use Rattle.table.specs.declared.Entry.{Entry}
-use Rattle.table.specs.declared.Head.{Head}
+use Rattle.table.specs.declared.entry.Entry.{Entry}
+use Rattle.table.specs.declared.pair.Head.{Head}
 use Rattle.table.specs.Entries.{empty, head}
 use Rattle.table.specs.Store.{TableMeaning, Change, write, resize, sync, at, resized, apply-all}
 use Rattle.journal.specs.Rows.{Row, JournalMeaning, restore, none-there, trimmed, apply-all as apply-journal}

@@ -13,10 +13,10 @@ use Rattle.std.specs.declared.result.Result.{Result}
 use Rattle.std.specs.declared.result.Result.the-variants.{Ok, Err}
 use Rattle.std.proofs.shelf.Tests.{both-ways}
 use Rattle.codec.specs.Kinds.{Kinds, Lawful, record-bytes}
-use Rattle.table.specs.declared.Entry.{Entry}
-use Rattle.table.specs.declared.TableFault.the-variants.{TooMany}
-use Rattle.table.specs.declared.Head.{Head}
-use Rattle.table.specs.declared.Head.the-variants.{Vacant as none, Latest as latest, Equal as equal}
+use Rattle.table.specs.declared.entry.Entry.{Entry}
+use Rattle.table.specs.declared.fault.TableFault.the-variants.{TooMany}
+use Rattle.table.specs.declared.pair.Head.{Head}
+use Rattle.table.specs.declared.pair.Head.the-variants.{Vacant as none, Latest as latest, Equal as equal}
 use Rattle.table.specs.Store.{TableMeaning, at, apply-all}
 use Rattle.journal.specs.declared.fault.Cursor.{Cursor}
 use Rattle.journal.specs.declared.fault.JournalFault.{JournalFault}

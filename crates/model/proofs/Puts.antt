@@ -14,9 +14,9 @@ use Rattle.std.specs.declared.option.Option.the-variants.{Some, None}
 use Rattle.std.proofs.shelf.Equals.{sameBytes-decides}
 use Rattle.std.proofs.shelf.Tests.{ne-eqb, ltb-true, ltb-false, cond-false, cases-eq, cases-bool, and-parts, and-right, leb-true}
 use Rattle.codec.specs.Kinds.{Kinds, record-bytes}
-use Rattle.table.specs.declared.Entry.{Entry}
-use Rattle.table.specs.declared.Head.{Head}
-use Rattle.table.specs.declared.Head.the-variants.{Latest as latest}
+use Rattle.table.specs.declared.entry.Entry.{Entry}
+use Rattle.table.specs.declared.pair.Head.{Head}
+use Rattle.table.specs.declared.pair.Head.the-variants.{Latest as latest}
 use Rattle.table.specs.Entries.{head, empty}
 use Rattle.table.specs.Store.{TableMeaning, Change, write, at}
 use Rattle.journal.specs.Rows.{Row, JournalMeaning, JournalChange, append, append-fault, appended, in-bounds, later-than, apply as apply-row}
@@ -30,7 +30,8 @@ use Rattle.model.specs.Common.{refuse, _then_, of-journal, last, hash, table-i
 use Rattle.model.specs.Init.{recovered}
 use Rattle.model.specs.Put.{above, place-section, place-position, extended, is-full, put-section, put-index, put-slot, put-head, put-added, mirrors, put-image, put-entry, put-fault, after-put, put-size}
 use Rattle.model.specs.Law.{Met-from, ledger-trail}
-use Rattle.model.proofs.Choice.{Pair, Written, write-chosen, with-0, with-1, entry-whole, recovered-later, chosen-loose}
+use Rattle.table.proofs.Wholes.{entry-whole}
+use Rattle.model.proofs.Choice.{Pair, Written, write-chosen, with-0, with-1, recovered-later, chosen-loose}
 use Rattle.model.proofs.Replay.{changed-all}
 use Rattle.model.proofs.Chains.{met-put, row-of, met-from-more, extends-append, appended-here, appended-there}
 use Rattle.model.proofs.Moves.{Pair-written, pair-written, slot-two}

@@ -12,7 +12,7 @@ use Rattle.std.specs.declared.option.Option.{Option}
 use Rattle.std.specs.declared.option.Option.the-variants.{Some, None}
 use Rattle.std.proofs.shelf.Tests.{and-right, le-ltb, lt-leb, cond-false, cases-lt}
 use Rattle.codec.specs.Kinds.{Kinds, record-bytes}
-use Rattle.table.specs.declared.Entry.{Entry}
+use Rattle.table.specs.declared.entry.Entry.{Entry}
 use Rattle.table.specs.Entries.{head}
 use Rattle.table.specs.Store.{TableMeaning, at}
 use Rattle.journal.specs.declared.fault.JournalFault.the-variants.{Full}

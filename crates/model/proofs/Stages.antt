@@ -10,7 +10,7 @@ use Rattle.crc32c.specs.Crc.{one-bit, eight-bits}
 use Rattle.codec.specs.Windows.{window-bytes}
 use Rattle.codec.specs.declared.serial.Serial.{Serial}
 use Rattle.codec.specs.declared.window.Window.{Window}
-use Rattle.table.specs.declared.Entry.{Entry}
+use Rattle.table.specs.declared.entry.Entry.{Entry}
 use Rattle.table.specs.Entries.{entry-check, entry, empty}
 use Rattle.table.specs.Store.{Change, TableMeaning, write}
 use Rattle.journal.specs.Rows.{JournalChange, JournalMeaning, append, clear, value-check, apply-all as apply-journal, sync as sync-sections}

@@ -19,9 +19,9 @@ use Rattle.codec.specs.declared.fault.KindFault.the-variants.{NoValue}
 use Rattle.codec.specs.declared.sealed.Sealed.{Sealed}
 use Rattle.codec.specs.declared.serial.Serial.{Serial}
 use Rattle.codec.specs.declared.window.Window.{Window}
-use Rattle.table.specs.declared.Entry.{Entry}
-use Rattle.table.specs.declared.Head.the-variants.{Latest}
-use Rattle.table.specs.Entries.{entry, empty, slot, head, failing}
+use Rattle.table.specs.declared.entry.Entry.{Entry}
+use Rattle.table.specs.Choices.{Head-cases, Slot-cases}
+use Rattle.table.specs.Entries.{entry, empty}
 use Rattle.table.specs.Store.{TableMeaning, write, sync, slot-0, slot-1}
 use Rattle.journal.specs.declared.fault.Cursor.{Cursor}
 use Rattle.journal.specs.Rows.{JournalMeaning, append, restore}
@@ -169,13 +169,6 @@ pub record Case-4 : Type 0 where
   pub at-21-second : put-section (numbers (putting one (opened 21))) ≡ 0
   pub at-21 : put-section (numbers (putting two (putting one (opened 21)))) ≡ 1
 
--- 5: the slot to write epoch 6 to
-pub record Case-5 (s p a s′ p′ a′ : ℕ) : Type 0 where
-  pub older-first : slot 6 (entry 4 s p a) (entry 5 s′ p′ a′) ≡ 0
-  pub older-second : slot 6 (entry 5 s p a) (entry 4 s′ p′ a′) ≡ 1
-  pub same-first : slot 6 (entry 6 s p a) (entry 5 s′ p′ a′) ≡ 0
-  pub same-second : slot 6 empty (entry 6 s′ p′ a′) ≡ 1
-
 -- 6: frequencies
 pub record Case-6 : Type 0 where
   pub passes : settings-fault (settings 1 254 1 100) ≡ None
@@ -188,8 +181,7 @@ of-pair a b = record { cells = a ∷ b ∷ []; durable = a ∷ b ∷ []; most = 
 -- 7: two whole entries of epoch 5 are refused; with one failing the other is the head
 pub record Case-7 (s p a s′ p′ a′ : ℕ) (e : Entry) : Type 0 where
   pub refused : pair-equal (of-pair (entry 5 s p a) (entry 5 s′ p′ a′)) 0 ≡ Some (EqualEpochs 0)
-  pub first-fails : failing e ≡ true → head e (entry 5 s p a) ≡ Latest (entry 5 s p a)
-  pub second-fails : failing e ≡ true → head (entry 5 s p a) e ≡ Latest (entry 5 s p a)
+  pub heads : Head-cases s p a s′ p′ a′ e
 
 abbrev pub no-bytes : Sealed
 no-bytes = record { len = 0; text = padded []; ok = padded-keeps [] refl }
@@ -207,7 +199,8 @@ pub record Eight-cases : Type 0 where
   pub case-2 : Case-2
   pub case-3 : Case-3
   pub case-4 : Case-4
-  pub case-5 : (s p a s′ p′ a′ : ℕ) → Case-5 s p a s′ p′ a′
+  -- the slot to write epoch 6 to
+  pub case-5 : (s p a s′ p′ a′ : ℕ) → Slot-cases s p a s′ p′ a′
   pub case-6 : Case-6
   pub case-7 : (s p a s′ p′ a′ : ℕ) (e : Entry) → Case-7 s p a s′ p′ a′ e
   pub case-8 : Case-8

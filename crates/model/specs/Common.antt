@@ -11,10 +11,10 @@ use Rattle.std.specs.declared.result.Result.{Result}
 use Rattle.std.specs.declared.result.Result.the-variants.{Ok, Err}
 use Rattle.crc32c.specs.Crc.{crc}
 use Rattle.codec.specs.Kinds.{Kinds}
-use Rattle.table.specs.declared.Entry.{Entry}
-use Rattle.table.specs.declared.TableFault.the-variants.{PastEnd}
-use Rattle.table.specs.declared.Head.{Head}
-use Rattle.table.specs.declared.Head.the-variants.{Vacant, Latest, Equal}
+use Rattle.table.specs.declared.entry.Entry.{Entry}
+use Rattle.table.specs.declared.fault.TableFault.the-variants.{PastEnd}
+use Rattle.table.specs.declared.pair.Head.{Head}
+use Rattle.table.specs.declared.pair.Head.the-variants.{Vacant, Latest, Equal}
 use Rattle.table.specs.Entries.{head}
 use Rattle.table.specs.Store.{TableMeaning, slot-0, slot-1}
 use Rattle.journal.specs.declared.fault.JournalFault.{JournalFault}

@@ -9,8 +9,8 @@ use Rattle.std.specs.declared.option.Option.the-variants.{Some, None}
 use Rattle.std.specs.declared.result.Result.the-variants.{Ok, Err}
 use Rattle.codec.specs.Windows.{window-bytes}
 use Rattle.codec.specs.declared.serial.Serial.{Serial}
-use Rattle.table.specs.declared.Entry.{Entry}
-use Rattle.table.specs.declared.TableFault.the-variants.{PastEnd}
+use Rattle.table.specs.declared.entry.Entry.{Entry}
+use Rattle.table.specs.declared.fault.TableFault.the-variants.{PastEnd}
 use Rattle.table.specs.Entries.{entry, empty}
 use Rattle.table.specs.Store.{TableMeaning, write, resize}
 use Rattle.journal.specs.declared.fault.JournalFault.the-variants.{Restore, Full, Below, NoRow, NoValue, Check, Kind}

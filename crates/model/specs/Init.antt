@@ -8,9 +8,9 @@ use Rattle.std.specs.declared.option.Option.{Option}
 use Rattle.std.specs.declared.option.Option.the-variants.{Some, None}
 use Rattle.std.specs.declared.result.Result.{Result}
 use Rattle.codec.specs.Kinds.{Kinds, record-bytes}
-use Rattle.table.specs.declared.Entry.{Entry}
-use Rattle.table.specs.declared.TableFault.the-variants.{TooMany}
-use Rattle.table.specs.declared.Head.{Head}
+use Rattle.table.specs.declared.entry.Entry.{Entry}
+use Rattle.table.specs.declared.fault.TableFault.the-variants.{TooMany}
+use Rattle.table.specs.declared.pair.Head.{Head}
 use Rattle.table.specs.Entries.{empty, is-empty, failing, head}
 use Rattle.table.specs.Store.{TableMeaning, Change, write, resize, sync, at, slot-0, slot-1}
 use Rattle.journal.specs.Rows.{JournalMeaning, JournalChange, restore, clear, restore-fault, stored-bytes}

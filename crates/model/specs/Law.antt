@@ -9,8 +9,8 @@ use Rattle.std.specs.declared.option.Option.{Option}
 use Rattle.std.specs.declared.option.Option.the-variants.{Some, None}
 use Rattle.std.specs.declared.result.Result.the-variants.{Ok, Err}
 use Rattle.codec.specs.Kinds.{Kinds, record-bytes}
-use Rattle.table.specs.declared.Head.{Head}
-use Rattle.table.specs.declared.Head.the-variants.{Vacant, Latest, Equal}
+use Rattle.table.specs.declared.pair.Head.{Head}
+use Rattle.table.specs.declared.pair.Head.the-variants.{Vacant, Latest, Equal}
 use Rattle.table.specs.Store.{TableMeaning, at, apply-all}
 use Rattle.journal.specs.Rows.{Row, JournalMeaning, row-at, stored-of, apply-all as apply-journal}
 use Rattle.model.specs.declared.Settings.{Settings}

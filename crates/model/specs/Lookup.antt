@@ -10,8 +10,8 @@ use Rattle.std.specs.declared.option.Option.the-variants.{Some, None}
 use Rattle.std.specs.declared.result.Result.{Result}
 use Rattle.std.specs.declared.result.Result.the-variants.{Ok, Err}
 use Rattle.codec.specs.Kinds.{Kinds}
-use Rattle.table.specs.declared.Head.{Head}
-use Rattle.table.specs.declared.Head.the-variants.{Vacant, Latest, Equal}
+use Rattle.table.specs.declared.pair.Head.{Head}
+use Rattle.table.specs.declared.pair.Head.the-variants.{Vacant, Latest, Equal}
 use Rattle.table.specs.Store.{TableMeaning}
 use Rattle.journal.specs.declared.fault.Cursor.{Cursor}
 use Rattle.journal.specs.declared.fault.JournalFault.{JournalFault}

@@ -8,9 +8,9 @@ use Rattle.std.specs.declared.option.Option.{Option}
 use Rattle.std.specs.declared.option.Option.the-variants.{Some, None}
 use Rattle.std.specs.declared.result.Result.{Result}
 use Rattle.codec.specs.Kinds.{Kinds, record-bytes}
-use Rattle.table.specs.declared.Entry.{Entry}
-use Rattle.table.specs.declared.Head.{Head}
-use Rattle.table.specs.declared.Head.the-variants.{Vacant, Latest, Equal}
+use Rattle.table.specs.declared.entry.Entry.{Entry}
+use Rattle.table.specs.declared.pair.Head.{Head}
+use Rattle.table.specs.declared.pair.Head.the-variants.{Vacant, Latest, Equal}
 use Rattle.table.specs.Entries.{entry, slot}
 use Rattle.table.specs.Store.{TableMeaning, Change, write, slot-0, slot-1}
 use Rattle.journal.specs.declared.fault.Cursor.{Cursor}

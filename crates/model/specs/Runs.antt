@@ -11,7 +11,7 @@ use Rattle.std.specs.declared.option.Option.the-variants.{Some, None}
 use Rattle.std.specs.declared.result.Result.{Result}
 use Rattle.std.specs.declared.result.Result.the-variants.{Ok, Err}
 use Rattle.codec.specs.Kinds.{Kinds, record-bytes}
-use Rattle.table.specs.declared.Entry.{Entry}
+use Rattle.table.specs.declared.entry.Entry.{Entry}
 use Rattle.table.specs.Entries.{empty, failing}
 use Rattle.table.specs.Store.{TableMeaning, Change, write, resize, sync, syncs, at, apply-all}
 use Rattle.journal.specs.declared.fault.Cursor.{Cursor}

@@ -1,8 +1,8 @@
 -- What stops a table: the number of each fault, and its details in order.
 use mathlib.Core.List.{List, [], _∷_}
 use Prim.Native.Nat.{ℕ}
-use Rattle.table.specs.declared.TableFault.{TableFault}
-use Rattle.table.specs.declared.TableFault.the-variants.{TooMany, PastEnd}
+use Rattle.table.specs.declared.fault.TableFault.{TableFault}
+use Rattle.table.specs.declared.fault.TableFault.the-variants.{TooMany, PastEnd}
 
 abbrev pub table-number : TableFault → ℕ
 table-number TooMany = 8

@@ -1,31 +1,22 @@
-// The table of chain heads: its entries, the head of a pair, and what stops a table.
+// The table of chain heads: entries and their bytes, the head of a pair and the slot to write, what a table is, and two
+// tables in lent memory.
+mod byte;
+mod entry;
+mod fault;
+mod pair;
+mod staged;
+mod store;
 
-// A chain head, 29 bytes: where the newest row of a chain lies, since which epoch, and how many rows were added to the
-// chain since its pair was last moved.
-#[derive(Clone, Copy)]
-pub struct Entry {
-    pub epoch: u64,
-    pub section: u64,
-    pub position: u64,
-    pub added: u8,
-    pub crc: u32,
-}
-
-// The head of a pair of entries.
-#[derive(Clone, Copy)]
-pub enum Head {
-    // Neither entry is whole.
-    Vacant,
-    // The only whole entry, or the one of higher epoch.
-    Latest(Entry),
-    // Both are whole and of the same epoch.
-    Equal,
-}
-
-#[derive(Clone, Copy)]
-pub enum TableFault {
-    // More entries than the table's most.
-    TooMany,
-    // An entry past the table's end, with its index.
-    PastEnd(u64),
-}
+pub use byte::ByteTable;
+pub use byte::ByteTableTable;
+pub use entry::EMPTY;
+pub use entry::Entry;
+pub use fault::TableFault;
+pub use pair::Head;
+pub use pair::choices_stand;
+pub use pair::compute_write_offset;
+pub use pair::read_latest_entry;
+pub use staged::StagedTable;
+pub use staged::StagedTableTable;
+pub use store::Table;
+pub use store::read_table;

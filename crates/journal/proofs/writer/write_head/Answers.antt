@@ -4,7 +4,7 @@ use Prim.Native.Nat.{ℕ, _+_, _-_}
 use native.Mathlib.Omega.{arith}
 use lib.ListN.{length, length-append}
 use Rattle.codec.specs.Bytes.{be}
-use Rattle.journal.proofs.Pieces.{piece, ended}
+use Rattle.codec.proofs.Pieces.{piece, ended}
 use Rattle.journal.proofs.writer.write_head.Needs as need
 
 pub returns : need.returns

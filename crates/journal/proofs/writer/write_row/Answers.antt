@@ -5,7 +5,8 @@ use Prim.Native.Nat.{ℕ, _+_, _-_}
 use native.Mathlib.Omega.{arith}
 use lib.ListN.{length}
 use Rattle.journal.specs.Log.{head-bytes, tail-bytes}
-use Rattle.journal.proofs.Pieces.{piece, ended, length-head, length-tail}
+use Rattle.codec.proofs.Pieces.{piece, ended}
+use Rattle.journal.proofs.Lengths.{length-head, length-tail}
 use Rattle.journal.proofs.writer.write_row.Needs as need
 
 pub returns : need.returns

@@ -6,7 +6,7 @@ use native.Mathlib.Omega.{arith}
 use lib.ListN.{length, length-append}
 use Rattle.crc32c.specs.Crc.{crc}
 use Rattle.codec.specs.Bytes.{be}
-use Rattle.journal.proofs.Pieces.{piece, middle, whole, ended}
+use Rattle.codec.proofs.Pieces.{piece, middle, whole, ended}
 use Rattle.journal.proofs.writer.write_tail.Needs as need
 
 pub returns : need.returns

@@ -5,9 +5,6 @@ use Prim.Native.Nat.{ℕ, _+_, _-_, _≤_}
 use native.Mathlib.Omega.{arith}
 use lib.ListN.{length, take, drop, length-append}
 use borrow.Rule.Slice.PartMut.{putMid}
-use Rattle.crc32c.specs.Crc.{crc}
-use Rattle.codec.specs.Bytes.{be}
-use Rattle.journal.specs.Log.{head-bytes, tail-bytes}
 use Rattle.std.proofs.shelf.Lists.{take-at, drop-at, drop-drop, drop-all}
 
 -- p is written, and z goes behind it
@@ -34,11 +31,3 @@ whole y z old l e =
 
 pub ended : (e : ℕ) (p out : List ℕ) → length out ≤ e → p ++ drop e out ≡ p
 ended e p out h = ap (λ r. p ++ r) (drop-all e out h) ∙ append-nil p
-
-pub length-head : (s n q : ℕ) (k : List ℕ) → length (head-bytes s k n q) ≡ 26 + length k
-length-head s n q k =
-    let p2 : List ℕ = 0x46 ∷ 0x5A ∷ be 8 s in
-    omega (arith, length-append ((p2 ++ k) ++ be 8 n) (be 8 q), length-append (p2 ++ k) (be 8 n), length-append p2 k)
-
-pub length-tail : (v : List ℕ) → length (tail-bytes v) ≡ 8 + length v
-length-tail v = omega (arith, length-append (be 4 (length v) ++ v) (be 4 (crc v)), length-append (be 4 (length v)) v)
