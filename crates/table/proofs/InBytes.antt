@@ -46,10 +46,10 @@ module _ (bs ys : List ℕ) (a : ℕ) (fit : a + length ys ≤ length bs) where
   part-outside q way =
       same-lists _ _ (simp (length-take, length-drop) (ap (λ n. min 29 (n - q)) pasted-length))
       (λ k d h.
-        let lt : k < 29 = omega (arith, length-take 29 (drop q (pasted bs a ys))) in
-        getD-take 29 _ k d lt ∙ getD-drop q (pasted bs a ys) k d
-        ∙ ⊎-elim (λ b. below (q + k) d (omega arith)) (λ b. beyond (q + k) d (omega arith)) way
-        ∙ sym (getD-take 29 _ k d lt ∙ getD-drop q bs k d))
+      let lt : k < 29 = omega (arith, length-take 29 (drop q (pasted bs a ys))) in
+      getD-take 29 _ k d lt ∙ getD-drop q (pasted bs a ys) k d
+      ∙ ⊎-elim (λ b. below (q + k) d (omega arith)) (λ b. beyond (q + k) d (omega arith)) way
+      ∙ sym (getD-take 29 _ k d lt ∙ getD-drop q bs k d))
 
   -- and one that lies within it
   pub part-inside : (q : ℕ) → a ≤ q → q + 29 ≤ a + length ys → take 29 (drop q (pasted bs a ys)) ≡ take 29 (drop (q - a) ys)
@@ -58,9 +58,9 @@ module _ (bs ys : List ℕ) (a : ℕ) (fit : a + length ys ≤ length bs) where
       let m = length-drop (q - a) ys in
       same-lists _ _ (simp length-take (omega arith))
       (λ k d h.
-        let lt : k < 29 = omega (arith, length-take 29 (drop q (pasted bs a ys))) in
-        getD-take 29 _ k d lt ∙ getD-drop q (pasted bs a ys) k d ∙ inside (q + k) d (omega arith) (omega arith)
-        ∙ sym (getD-take 29 _ k d lt ∙ getD-drop (q - a) ys k d ∙ ap (λ j. getD ys j d) (omega arith)))
+      let lt : k < 29 = omega (arith, length-take 29 (drop q (pasted bs a ys))) in
+      getD-take 29 _ k d lt ∙ getD-drop q (pasted bs a ys) k d ∙ inside (q + k) d (omega arith) (omega arith)
+      ∙ sym (getD-take 29 _ k d lt ∙ getD-drop (q - a) ys k d ∙ ap (λ j. getD ys j d) (omega arith)))
 
 -- a write of one cell
 module _ (bs ys : List ℕ) (n i : ℕ) (good : 29 * n ≤ length bs) (here : i < n) (long : length ys ≡ 29) where
@@ -74,16 +74,16 @@ module _ (bs ys : List ℕ) (n i : ℕ) (good : 29 * n ≤ length bs) (here : i 
       let new = pasted bs (29 * i) ys in
       same-lists _ _ (simp (length-set, length-map-counting))
       (λ k d h.
-        let lt : k < n = omega (arith, length-map-counting (entry-at new) 0 n) in
-        getD-map-counting (entry-at new) 0 n k k d lt (omega arith)
-        ∙ ⊎-elim
-          (λ e. ap entry-read (ap (λ j. take 29 (drop (29 * j) new)) e ∙ part-inside bs ys (29 * i) fit (29 * i) (omega arith) (omega arith)
-                ∙ ap (λ j. take 29 (drop j ys)) none ∙ take-all 29 ys (omega arith))
-                ∙ sym (ap (λ j. getD (set (entries-in n bs) i (entry-read ys)) j d) e
-                       ∙ getD-set-same (entries-in n bs) i (entry-read ys) d (omega (arith, length-map-counting (entry-at bs) 0 n))))
-          (λ ne. ap entry-read (part-outside bs ys (29 * i) fit (29 * k) (⊎-elim (λ l. inl (omega arith)) (λ l. inr (omega arith)) (cases-lt k i)))
-                ∙ sym (getD-set-other (entries-in n bs) i k (entry-read ys) d ne ∙ getD-map-counting (entry-at bs) 0 n k k d lt (omega arith)))
-          (cases-eq k i))
+      let lt : k < n = omega (arith, length-map-counting (entry-at new) 0 n) in
+      getD-map-counting (entry-at new) 0 n k k d lt (omega arith)
+      ∙ ⊎-elim
+      (λ e. ap entry-read (ap (λ j. take 29 (drop (29 * j) new)) e ∙ part-inside bs ys (29 * i) fit (29 * i) (omega arith) (omega arith)
+      ∙ ap (λ j. take 29 (drop j ys)) none ∙ take-all 29 ys (omega arith))
+      ∙ sym (ap (λ j. getD (set (entries-in n bs) i (entry-read ys)) j d) e
+      ∙ getD-set-same (entries-in n bs) i (entry-read ys) d (omega (arith, length-map-counting (entry-at bs) 0 n))))
+      (λ ne. ap entry-read (part-outside bs ys (29 * i) fit (29 * k) (⊎-elim (λ l. inl (omega arith)) (λ l. inr (omega arith)) (cases-lt k i)))
+      ∙ sym (getD-set-other (entries-in n bs) i k (entry-read ys) d ne ∙ getD-map-counting (entry-at bs) 0 n k k d lt (omega arith)))
+      (cases-eq k i))
 
 -- added cells
 module _ (bs : List ℕ) (n m : ℕ) (more : n < m) (room : 29 * m ≤ length bs) where
@@ -102,17 +102,17 @@ module _ (bs : List ℕ) (n m : ℕ) (more : n < m) (room : 29 * m ≤ length bs
       same-lists _ _
       (length-map-counting (entry-at new) 0 m ∙ sym (ap length whole ∙ length-append old (replicate (m - n) empty) ∙ rw (lo, length-replicate (m - n) empty) (omega arith)))
       (λ k d h.
-        let lt : k < m = omega (arith, length-map-counting (entry-at new) 0 m) in
-        getD-map-counting (entry-at new) 0 m k k d lt (omega arith)
-        ∙ ⊎-elim
-          (λ b. ap entry-read (part-outside bs zs (29 * n) fit (29 * k) (inl (omega arith)))
-                ∙ sym (ap (λ xs. getD xs k d) whole ∙ getD-append-left old _ d k (omega arith) ∙ getD-map-counting (entry-at bs) 0 n k k d b (omega arith)))
-          (λ b. let cut : 29 ≤ 29 * m - 29 * n - (29 * k - 29 * n) = omega arith in
-                ap entry-read (part-inside bs zs (29 * n) fit (29 * k) (omega arith) (omega (arith, long))
-                  ∙ ap (take 29) (drop-replicate (29 * k - 29 * n) (29 * m - 29 * n) 0)
-                  ∙ take-replicate 29 (29 * m - 29 * n - (29 * k - 29 * n)) 0 cut)
-                ∙ sym (ap (λ xs. getD xs k d) whole ∙ getD-append-right old (replicate (m - n) empty) n k d lo b ∙ getD-replicate (m - n) (k - n) empty d (omega arith)))
-          (cases-lt k n))
+      let lt : k < m = omega (arith, length-map-counting (entry-at new) 0 m) in
+      getD-map-counting (entry-at new) 0 m k k d lt (omega arith)
+      ∙ ⊎-elim
+      (λ b. ap entry-read (part-outside bs zs (29 * n) fit (29 * k) (inl (omega arith)))
+      ∙ sym (ap (λ xs. getD xs k d) whole ∙ getD-append-left old _ d k (omega arith) ∙ getD-map-counting (entry-at bs) 0 n k k d b (omega arith)))
+      (λ b. let cut : 29 ≤ 29 * m - 29 * n - (29 * k - 29 * n) = omega arith in
+      ap entry-read (part-inside bs zs (29 * n) fit (29 * k) (omega arith) (omega (arith, long))
+      ∙ ap (take 29) (drop-replicate (29 * k - 29 * n) (29 * m - 29 * n) 0)
+      ∙ take-replicate 29 (29 * m - 29 * n - (29 * k - 29 * n)) 0 cut)
+      ∙ sym (ap (λ xs. getD xs k d) whole ∙ getD-append-right old (replicate (m - n) empty) n k d lo b ∙ getD-replicate (m - n) (k - n) empty d (omega arith)))
+      (cases-lt k n))
 
 abbrev mk : List Entry → ℕ → TableMeaning
 mk cs l = record { cells = cs; durable = cs; most = l / 29; eager = true; asked = None }
@@ -140,9 +140,10 @@ module _ (bs : List ℕ) (n i : ℕ) (good : byte-good bs n) (here : i < n) wher
       let at : putMid a (a + 29 - a) bs ys ≡ pasted bs a ys = ap (λ t. take a bs ++ (ys ++ t)) (drop-drop (a + 29 - a) a bs ∙ ap (λ j. drop j bs) w) in
       let l : length (putMid a (a + 29 - a) bs ys) ≡ length bs = ap length at ∙ pasted-length bs ys a fit in
       let cs : entries-in n (putMid a (a + 29 - a) bs ys) ≡ set (entries-in n bs) i e =
-          ap (entries-in n) at ∙ entries-write bs ys n i (omega arith) here long ∙ ap (set (entries-in n bs) i) is in
-      ( ap (λ xs. mk xs (length (putMid a (a + 29 - a) bs ys))) cs ∙ ap (mk (set (entries-in n bs) i e)) l ∙ sym (write-done (byte-means bs n) i e within),
-        omega (arith, l) )
+      ap (entries-in n) at ∙ entries-write bs ys n i (omega arith) here long ∙ ap (set (entries-in n bs) i) is in (
+        ap (λ xs. mk xs (length (putMid a (a + 29 - a) bs ys))) cs ∙ ap (mk (set (entries-in n bs) i e)) l ∙ sym (write-done (byte-means bs n) i e within),
+        omega (arith, l),
+      )
 
 module _ (bs : List ℕ) (n m : ℕ) (good : byte-good bs n) (room : m ≤ length bs / 29) where
   pub byte-resize-answer : _≡_ {A = Result (Unit {0}) TableFault} (Ok tt) (resize-answer (byte-means bs n) m)
@@ -158,12 +159,12 @@ module _ (bs : List ℕ) (n m : ℕ) (good : byte-good bs n) (room : m ≤ lengt
       let at : new ≡ pasted bs (29 * n) zs = is ∙ ap (λ j. take (29 * n) bs ++ (zs ++ drop j bs)) w in
       let l : length new ≡ length bs = ap length at ∙ pasted-length bs zs (29 * n) fit in
       let cs : entries-in m new ≡ resized m (entries-in n bs) = ap (entries-in m) at ∙ entries-grow bs n m more (omega arith) in
-      ( ap (λ xs. mk xs (length new)) cs ∙ ap (mk (resized m (entries-in n bs))) l ∙ sym (resize-done (byte-means bs n) m room), omega (arith, l) )
+      (ap (λ xs. mk xs (length new)) cs ∙ ap (mk (resized m (entries-in n bs))) l ∙ sym (resize-done (byte-means bs n) m room), omega (arith, l))
 
   pub byte-shrunk : m ≤ n → (byte-means bs m ≡ resize-after (byte-means bs n) m) × byte-good bs m
   byte-shrunk less =
       let lo : length (entries-in n bs) ≡ n = length-map-counting (entry-at bs) 0 n in
       let none : m - length (entries-in n bs) ≡ 0 = omega arith in
       let cs : entries-in m bs ≡ resized m (entries-in n bs) =
-          sym (take-map-counting (entry-at bs) 0 n m less) ∙ sym (append-nil (take m (entries-in n bs))) ∙ ap (λ j. take m (entries-in n bs) ++ replicate j empty) (sym none) in
+      sym (take-map-counting (entry-at bs) 0 n m less) ∙ sym (append-nil (take m (entries-in n bs))) ∙ ap (λ j. take m (entries-in n bs) ++ replicate j empty) (sym none) in
       (ap (λ xs. mk xs (length bs)) cs ∙ sym (resize-done (byte-means bs n) m room), omega arith)

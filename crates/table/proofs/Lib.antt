@@ -5,3 +5,4 @@ pub mod Filled
 pub mod InBytes
 pub mod InTables
 pub mod Spared
+pub mod LentBack

@@ -73,24 +73,24 @@ spared e a b p =
     (λ h. ap (λ x. head-below e x b) (sym (empty-is a h)))
     (λ h. ap (head-below e a) (sym (empty-is b h)))
     (λ x y z w v.
-      let wa = sound-whole a z (p .first) in
-      let wb = sound-whole b w (p .second) in
-      let l = ltb-true (a .epoch) (b .epoch) v in
-      ap₂ (λ (s t : Entry). head s t) (below-empty e) (below-other e b (p .second-epoch) w y)
-      ∙ ap (λ (t : Bool). head-by false t empty b) wb
-      ∙ sym (ap₂ (λ (s t : Entry). head s t) (below-other e a (p .first-epoch) z x) (below-other e b (p .second-epoch) w y)
-        ∙ ap₂ (λ (s t : Bool). head-by s t a b) wa wb
-        ∙ cond-false (eqb (a .epoch) (b .epoch)) _ _ (ne-eqb (a .epoch) (b .epoch) (λ q. omega arith))
-        ∙ ap Latest (cond-true (ltb (a .epoch) (b .epoch)) b a v)))
+    let wa = sound-whole a z (p .first) in
+    let wb = sound-whole b w (p .second) in
+    let l = ltb-true (a .epoch) (b .epoch) v in
+    ap₂ (λ (s t : Entry). head s t) (below-empty e) (below-other e b (p .second-epoch) w y)
+    ∙ ap (λ (t : Bool). head-by false t empty b) wb
+    ∙ sym (ap₂ (λ (s t : Entry). head s t) (below-other e a (p .first-epoch) z x) (below-other e b (p .second-epoch) w y)
+    ∙ ap₂ (λ (s t : Bool). head-by s t a b) wa wb
+    ∙ cond-false (eqb (a .epoch) (b .epoch)) _ _ (ne-eqb (a .epoch) (b .epoch) (λ q. omega arith))
+    ∙ ap Latest (cond-true (ltb (a .epoch) (b .epoch)) b a v)))
     (λ x y z w v.
-      let wa = sound-whole a z (p .first) in
-      let wb = sound-whole b w (p .second) in
-      ap₂ (λ (s t : Entry). head s t) (below-other e a (p .first-epoch) z x) (below-empty e)
-      ∙ ap (λ (t : Bool). head-by t false a empty) wa
-      ∙ sym (ap₂ (λ (s t : Entry). head s t) (below-other e a (p .first-epoch) z x) (below-other e b (p .second-epoch) w y)
-        ∙ ap₂ (λ (s t : Bool). head-by s t a b) wa wb
-        ∙ cond-false (eqb (a .epoch) (b .epoch)) _ _ (ne-eqb (a .epoch) (b .epoch) (p .differ wa wb))
-        ∙ ap Latest (cond-false (ltb (a .epoch) (b .epoch)) b a v)))
+    let wa = sound-whole a z (p .first) in
+    let wb = sound-whole b w (p .second) in
+    ap₂ (λ (s t : Entry). head s t) (below-other e a (p .first-epoch) z x) (below-empty e)
+    ∙ ap (λ (t : Bool). head-by t false a empty) wa
+    ∙ sym (ap₂ (λ (s t : Entry). head s t) (below-other e a (p .first-epoch) z x) (below-other e b (p .second-epoch) w y)
+    ∙ ap₂ (λ (s t : Bool). head-by s t a b) wa wb
+    ∙ cond-false (eqb (a .epoch) (b .epoch)) _ _ (ne-eqb (a .epoch) (b .epoch) (p .differ wa wb))
+    ∙ ap Latest (cond-false (ltb (a .epoch) (b .epoch)) b a v)))
 
 pub choices : Choices
 choices = record { slots = slots; heads = heads; spares = spared }

@@ -55,4 +55,3 @@ empty-is e h =
       added = eqb-true (e .added) 0 (d .0) i;
       crc = eqb-true (e .crc) 0 (d .1) i;
     }
-

@@ -44,7 +44,10 @@ impl<'a> ByteTable<'a> {
         ensures entries { λ r. ⌜ r .entries ≡ entries ⌝ }
         ensures good { λ r. ⌜ byte-good (now (r .bytes)) (r .entries) ⌝ }
     {
-        ByteTable { bytes, entries: entries as usize }
+        ByteTable {
+            bytes,
+            entries: entries as usize,
+        }
     }
 }
 

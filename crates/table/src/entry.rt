@@ -5,12 +5,12 @@ ghost use lib.ListN.{length};
 ghost use Rattle.codec.specs.Bytes.{be};
 ghost use Rattle.crc32c.specs.Crc.{register};
 ghost use Rattle.table.specs.Entries.{checks, empty, entry, entry-bytes, entry-check, entry-read, failing, is-empty, whole};
+use codec::put_u8;
 use codec::put_u32;
 use codec::put_u64;
-use codec::put_u8;
+use codec::take_u8;
 use codec::take_u32;
 use codec::take_u64;
-use codec::take_u8;
 use crc32c::START;
 use crc32c::finish;
 use crc32c::update;
@@ -25,7 +25,13 @@ pub struct Entry {
 }
 
 // The empty entry: all bytes zero.
-pub const EMPTY: Entry = Entry { epoch: 0, section: 0, position: 0, added: 0, crc: 0 };
+pub const EMPTY: Entry = Entry {
+    epoch: 0,
+    section: 0,
+    position: 0,
+    added: 0,
+    crc: 0,
+};
 
 // The check's register after a number of 8 bytes.
 fn update_u64(state: u32, n: u64) -> u32
@@ -56,13 +62,23 @@ impl Entry {
         ensures { λ r. ⌜ r ≡ entry epoch section position added ⌝ }
     {
         let crc = compute_crc(epoch, section, position, added);
-        Entry { epoch, section, position, added, crc }
+        Entry {
+            epoch,
+            section,
+            position,
+            added,
+            crc,
+        }
     }
 
     pub fn is_empty(&self) -> bool
         ensures { λ r. ⌜ r ≡ is-empty (now (self .entry)) ⌝ }
     {
-        self.epoch == 0 && self.section == 0 && self.position == 0 && self.added == 0 && self.crc == 0
+        self.epoch == 0
+            && self.section == 0
+            && self.position == 0
+            && self.added == 0
+            && self.crc == 0
     }
 
     fn checks(&self) -> bool

@@ -6,6 +6,8 @@ mod fault;
 mod pair;
 mod staged;
 mod store;
+#[cfg(test)]
+mod tests;
 
 pub use byte::ByteTable;
 pub use byte::ByteTableTable;

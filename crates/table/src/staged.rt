@@ -53,7 +53,12 @@ impl<'a> StagedTable<'a> {
     {
         let len = entries as usize;
         working[0..len].copy_from_slice(&durable[0..len]);
-        StagedTable { working, durable, len, durable_len: len }
+        StagedTable {
+            working,
+            durable,
+            len,
+            durable_len: len,
+        }
     }
 }
 

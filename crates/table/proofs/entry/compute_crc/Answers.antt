@@ -18,5 +18,5 @@ unfolding entry-check
 returns c =
     c .finish .ensures
     ∙ ap (λ (x : ℕ). bitXor x ones)
-      (all ones (c .update-u8 .result) (c .update-u64-state .result) (c .update-u64-state-2 .result) (c .update-u64-state-3 .result) (c .args .epoch) (c .args .section) (c .args .position) (c .args .added)
-      (c .update-u64-state .ensures) (c .update-u64-state-2 .ensures) (c .update-u64-state-3 .ensures) (c .update-u8 .ensures))
+    (all ones (c .update-u8 .result) (c .update-u64-state .result) (c .update-u64-state-2 .result) (c .update-u64-state-3 .result) (c .args .epoch) (c .args .section) (c .args .position) (c .args .added)
+    (c .update-u64-state .ensures) (c .update-u64-state-2 .ensures) (c .update-u64-state-3 .ensures) (c .update-u8 .ensures))

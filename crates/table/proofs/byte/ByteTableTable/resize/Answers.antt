@@ -14,9 +14,10 @@ returns c =
     let m = c .args .count in
     let room = c .if-count-self .left in
     let P : ByteTable → Type 0 =
-        λ x. (byte-means (x .bytes .now) m ≡ resize-after (byte-means bs (s .entries)) m) × byte-good (x .bytes .now) m in
+    λ x. (byte-means (x .bytes .now) m ≡ resize-after (byte-means bs (s .entries)) m) × byte-good (x .bytes .now) m in
     let done : P (c .if-count-entries .self) =
-        elim (c .if-count-entries .came) [
-          then-count-entries w ↦ subst P (sym (w .self-is)) (byte-grown bs (s .entries) m (c .pre) room (w .if-count-entries .taken) (w .zero-part .last .bytes) (w .zero-part .ensures))
-        | else-count-entries w ↦ subst P (sym (w .self-is)) (byte-shrunk bs (s .entries) m (c .pre) room (w .if-count-entries .left)) ] in
+    elim (c .if-count-entries .came) [
+      | then-count-entries w ↦ subst P (sym (w .self-is)) (byte-grown bs (s .entries) m (c .pre) room (w .if-count-entries .taken) (w .zero-part .last .bytes) (w .zero-part .ensures))
+      | else-count-entries w ↦ subst P (sym (w .self-is)) (byte-shrunk bs (s .entries) m (c .pre) room (w .if-count-entries .left))
+    ] in
     record { answer = byte-resize-answer bs (s .entries) m (c .pre) room; after = done .0; good = done .1; same = search needs }

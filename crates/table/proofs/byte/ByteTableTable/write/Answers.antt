@@ -12,5 +12,5 @@ pub returns : need.returns
 returns c =
     let s = c .args .self .now in
     let done = byte-wrote (s .bytes .now) (s .entries) (c .args .index) (c .pre) (c .if-index-self .left) (c .encode .last .out) (c .args .entry)
-               (ap length (c .encode .ensures .written)) (c .encode .ensures .back) in
+    (ap length (c .encode .ensures .written)) (c .encode .ensures .back) in
     record { answer = byte-answer (s .bytes .now) (s .entries) (c .args .index) (c .pre) (c .if-index-self .left); after = done .0; good = done .1; same = search needs }
