@@ -1,5 +1,5 @@
 // The service job: lays out a log of windows for some serials in two sections, reads it back, damages one byte of one
-// value, and reads again.
+// value, and reads again; then an entry of the table, whole and damaged.
 ghost use mathlib.Core.Path.{_≡_};
 ghost use Rattle.service.specs.Append.{append-after, append-answer};
 use codec::Key;
@@ -14,6 +14,7 @@ use journal::row_size;
 use journal::write_row;
 use std::error::AnyError;
 use std::fmt;
+use table::Entry;
 
 // Both numbers of a next place are this where there is none.
 const NO_PLACE: u64 = u64::MAX;
@@ -128,6 +129,40 @@ fn read_back(rt: &impl Print, log: &[u8]) -> Result<(), AnyError> {
     Ok(())
 }
 
+// Prints 29 bytes of the table and what they are.
+fn show_entry(rt: &impl Print, bytes: &[u8; 29]) -> Result<(), AnyError> {
+    print!(rt, " ")?;
+    for b in bytes {
+        print!(rt, " {b:02x}")?;
+    }
+    let entry = Entry::decode(bytes);
+    let state = if entry.is_valid() {
+        "whole"
+    } else if entry.is_failing() {
+        "failing"
+    } else {
+        "empty"
+    };
+    println!(rt, ": {state}")?;
+    Ok(())
+}
+
+// An entry of the table, whole and with one byte damaged.
+fn entries(rt: &impl Print) -> Result<(), AnyError> {
+    let mut bytes = [0u8; 29];
+    println!(rt, "an entry of the table: none yet")?;
+    show_entry(rt, &bytes)?;
+    println!(
+        rt,
+        "the chain head of serial 1001: epoch 1, row (1, 0), 2 rows added"
+    )?;
+    Entry::new(1, 1, 0, 2).encode(&mut bytes);
+    show_entry(rt, &bytes)?;
+    println!(rt, "damage byte 15, in its section")?;
+    bytes[15] ^= 0x01;
+    show_entry(rt, &bytes)
+}
+
 fn run(rt: &impl Print) -> Result<(), AnyError> {
     let terms = [
         Term {
@@ -171,7 +206,8 @@ fn run(rt: &impl Print) -> Result<(), AnyError> {
     println!(rt, "damage byte 160, in the value of the row at 116")?;
     log[160] ^= 0x01;
     println!(rt, "read it again")?;
-    read_back(rt, &log)
+    read_back(rt, &log)?;
+    entries(rt)
 }
 
 fn main(rt: LibcRuntime) -> Result<(), AnyError> {
