@@ -22,6 +22,7 @@ sealed-check bs = cond (leb (length bs) sealed-most) (Ok tt) (Err NoValue)
 abbrev pub sealed-bytes : Sealed → List ℕ
 sealed-bytes s = take (s .len) (s .text)
 
+-- the same, once it is known whether they may be sealed
 abbrev pub sealed-if : (bs : List ℕ) (fits : Bool) → sealable bs ≡ fits → Option Sealed
 sealed-if bs true h = Some (record { len = length bs; text = padded bs; ok = padded-keeps bs h })
 sealed-if bs false h = None

@@ -23,6 +23,7 @@ window-check first end = cond (ltb first end) (Ok tt) (Err NoValue)
 abbrev pub window-bytes : Window → List ℕ
 window-bytes w = be 8 (w .first) ++ be 8 (w .end)
 
+-- the same, once it is known whether they are in order
 abbrev pub window-if : (first end : ℕ) (ordered : Bool) → in-order first end ≡ ordered → Option Window
 window-if first end true h = Some (record { first = first; end = end; ok = h })
 window-if first end false h = None

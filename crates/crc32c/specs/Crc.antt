@@ -11,6 +11,7 @@ polynomial = 0x82F63B78
 unfoldable pub one-bit : ℕ → ℕ
 one-bit s = bitXor (s / 2) (s % 2 * polynomial)
 
+-- eight bits leave it
 unfoldable pub eight-bits : ℕ → ℕ
 eight-bits s = one-bit (one-bit (one-bit (one-bit (one-bit (one-bit (one-bit (one-bit s)))))))
 

@@ -7,6 +7,7 @@ use Rattle.journal.specs.declared.fault.Cursor.{Cursor}
 use Rattle.journal.specs.declared.fault.JournalFault.{JournalFault}
 use Rattle.journal.specs.declared.fault.JournalFault.the-variants.{Restore, Full, Below, NoRow, NoValue, Check, Kind}
 
+-- the number of each fault
 abbrev pub journal-number : JournalFault → ℕ
 journal-number (Restore s) = 7
 journal-number (Full s) = 10
@@ -16,9 +17,11 @@ journal-number (NoValue c) = 16
 journal-number (Check a b) = 17
 journal-number (Kind c) = 18
 
+-- section, offset, size
 abbrev pub cursor-numbers : Cursor → List ℕ
 cursor-numbers c = c .section ∷ c .offset ∷ c .size ∷ []
 
+-- none for bytes that have no place
 abbrev pub place-numbers : Option Cursor → List ℕ
 place-numbers None = []
 place-numbers (Some c) = cursor-numbers c

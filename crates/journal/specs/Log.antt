@@ -22,6 +22,7 @@ pub record LogRow : Type 0 where
   pub next-position : ℕ
   pub value : List ℕ
 
+-- a row of its parts
 abbrev pub log-row : ℕ → List ℕ → ℕ → ℕ → List ℕ → LogRow
 log-row s k ns np v = record { section = s; key = k; next-section = ns; next-position = np; value = v }
 
@@ -34,6 +35,7 @@ head-bytes section key next-section next-position =
 abbrev pub tail-bytes : List ℕ → List ℕ
 tail-bytes value = (be 4 (length value) ++ value) ++ be 4 (crc value)
 
+-- the bytes of a row
 abbrev pub row-bytes : LogRow → List ℕ
 row-bytes r = head-bytes (r .section) (r .key) (r .next-section) (r .next-position) ++ tail-bytes (r .value)
 
@@ -43,18 +45,23 @@ row-size width value-length = 34 + width + value-length
 
 -- ---- reading: what some bytes begin with, where keys have a width
 
+-- bytes 2 to 10
 abbrev pub section-of : List ℕ → ℕ
 section-of bs = number (between 2 10 bs)
 
+-- the four bytes behind the next place
 abbrev pub value-length : ℕ → List ℕ → ℕ
 value-length w bs = number (between (26 + w) (30 + w) bs)
 
+-- as many bytes as the length says
 abbrev pub value-of : ℕ → List ℕ → List ℕ
 value-of w bs = between (30 + w) (30 + w + value-length w bs) bs
 
+-- the four bytes behind the value
 abbrev pub check-of : ℕ → List ℕ → ℕ
 check-of w bs = number (between (30 + w + value-length w bs) (34 + w + value-length w bs) bs)
 
+-- the row that bytes begin with, good or not
 abbrev pub row-of : ℕ → List ℕ → LogRow
 row-of w bs =
     log-row (section-of bs) (between 10 (10 + w) bs) (number (between (10 + w) (18 + w) bs)) (number (between (18 + w) (26 + w) bs)) (value-of w bs)
@@ -63,6 +70,7 @@ row-of w bs =
 abbrev pub is-blank : List ℕ → Bool
 is-blank bs = ltb (length bs) 2 || (eqb (getD bs 0 0) 0 && eqb (getD bs 1 0) 0)
 
+-- the mark 46 5A
 abbrev pub is-marked : List ℕ → Bool
 is-marked bs = eqb (getD bs 0 0) 0x46 && eqb (getD bs 1 0) 0x5A
 
@@ -90,6 +98,7 @@ shown (Row at s k ns np v) = row at (log-row s (k .now) ns np (v .now))
 shown (Blank at) = blank at
 shown (Spoiled at) = spoiled at
 
+-- what stands at the front of some bytes
 abbrev pub look : ℕ → ℕ → ℕ → List ℕ → Shown
 look w last at bs = cond (is-blank bs) (blank at) (cond (is-row w last bs) (row at (row-of w bs)) (spoiled at))
 
@@ -99,6 +108,7 @@ Key-wide w (row at r) = length (r .key) ≡ w
 Key-wide w (blank at) = Unit {0}
 Key-wide w (spoiled at) = Unit {0}
 
+-- where an answer stands
 abbrev pub stands : Shown → ℕ
 stands (row at r) = at
 stands (blank at) = at
@@ -138,6 +148,7 @@ abbrev pub Rising : ℕ → ℕ → List LogRow → Type 0
 Rising w last [] = Unit {0}
 Rising w last (r ∷ rs) = Writable w r × (last ≤ r .section) × Rising w (r .section) rs
 
+-- rows one behind the other
 abbrev pub log-bytes : List LogRow → List ℕ
 log-bytes [] = []
 log-bytes (r ∷ rs) = row-bytes r ++ log-bytes rs

@@ -22,6 +22,7 @@ pub record Row (K : Type 0) : Type 0 where
   pub next-position : ℕ
   pub stored : List ℕ
 
+-- what is asked of a journal
 pub data JournalChange (K : Type 0) : Type 0 where
   append : (section : ℕ) (key : K) (next-section next-position : ℕ) (encoding : List ℕ) → JournalChange K
   sync : (first last : ℕ) → JournalChange K
@@ -38,6 +39,7 @@ pub record JournalMeaning (K : Type 0) : Type 0 where
 
 -- ---- values
 
+-- the check of a value
 unfoldable pub value-check : List ℕ → ℕ
 value-check encoding = crc encoding
 
@@ -45,9 +47,11 @@ value-check encoding = crc encoding
 abbrev pub stored-of : List ℕ → List ℕ
 stored-of encoding = encoding ++ be 4 (value-check encoding)
 
+-- a stored value without its check
 abbrev pub encoding-of : List ℕ → List ℕ
 encoding-of stored = take (length stored - 4) stored
 
+-- the check that is stored with a value
 abbrev pub check-of : List ℕ → ℕ
 check-of stored = number (drop (length stored - 4) stored)
 
@@ -57,11 +61,13 @@ module _ {K : Type 0} where
   stored-bytes [] = 0
   stored-bytes (r ∷ rs) = length (r .stored) + stored-bytes rs
 
+  -- the row at a position
   abbrev pub row-at : List (Row K) → ℕ → Option (Row K)
   row-at [] p = None
   row-at (r ∷ rs) zero = Some r
   row-at (r ∷ rs) (suc p) = row-at rs p
 
+  -- has a section no rows
   abbrev pub none-there : List (Row K) → Bool
   none-there [] = true
   none-there (r ∷ rs) = false
@@ -73,6 +79,7 @@ module _ {K : Type 0} where
 
   -- ---- changes
 
+  -- one row more in section s
   abbrev pub appended : ℕ → Row K → (ℕ → List (Row K)) → (ℕ → List (Row K))
   appended s r rows i = cond (eqb i s) (rows i ++ (r ∷ [])) (rows i)
 
@@ -80,6 +87,7 @@ module _ {K : Type 0} where
   abbrev pub kept : ℕ → ℕ → (ℕ → List (Row K)) → (ℕ → List (Row K))
   kept s n rows i = cond (ltb i s) (rows i) (cond (eqb i s) (take n (rows i)) [])
 
+  -- the rows after a change
   abbrev pub rows-after : ℕ → JournalChange K → (ℕ → List (Row K)) → (ℕ → List (Row K))
   rows-after size (append s k ns np enc) rows = appended s (record { key = k; next-section = ns; next-position = np; stored = stored-of enc }) rows
   rows-after size (sync a b) rows = rows
@@ -93,6 +101,7 @@ module _ {K : Type 0} where
   made-durable (restore s bytes) eager i = true
   made-durable clear eager i = true
 
+  -- one more than the highest section with rows, after a change
   abbrev pub sections-after : JournalChange K → (ℕ → List (Row K)) → ℕ → ℕ
   sections-after (append s k ns np enc) rows n = max n (suc s)
   sections-after (sync a b) rows n = n
@@ -109,6 +118,7 @@ module _ {K : Type 0} where
     asked = noted c (j .asked);
   }
 
+  -- several changes, in order
   abbrev pub apply-all : ℕ → JournalMeaning K → List (JournalChange K) → JournalMeaning K
   apply-all size j [] = j
   apply-all size j (c ∷ cs) = apply-all size (apply size j c) cs
@@ -119,6 +129,7 @@ module _ {K : Type 0} where
   abbrev pub later-than : ℕ → JournalMeaning K → Bool
   later-than s j = ltb (suc s) (j .sections)
 
+  -- the stored bytes of a section
   abbrev pub value-end : JournalMeaning K → ℕ → ℕ
   value-end j s = stored-bytes (j .rows s)
 
@@ -146,19 +157,23 @@ module _ {K : Type 0} where
 -- ---- a value by its cursor: 16, 17, 18
 
 module _ {V : Type 0} (decode : List ℕ → Option V) where
+  -- 18: bytes that are no value of the kind
   abbrev pub decoded : Cursor → Option V → Result V JournalFault
   decoded c None = Err (Kind (Some c))
   decoded c (Some v) = Ok v
 
+  -- 17: a wrong check
   abbrev pub checked : Cursor → List ℕ → Result V JournalFault
   checked c stored =
       cond (eqb (value-check (encoding-of stored)) (check-of stored))
       (decoded c (decode (encoding-of stored)))
       (Err (Check (check-of stored) (value-check (encoding-of stored))))
 
+  -- 16: no row has this place, or its bytes are too few for a check
   abbrev pub value-there : Cursor → Option (List ℕ) → Result V JournalFault
   value-there c None = Err (NoValue c)
-  value-there c (Some stored) = checked c stored
+  value-there c (Some stored) = cond (ltb (length stored) 4) (Err (NoValue c)) (checked c stored)
 
+  -- the value at a cursor
   abbrev pub value-answer : {K : Type 0} → JournalMeaning K → Cursor → Result V JournalFault
   value-answer j c = value-there c (stored-at 0 (j .rows (c .section)) (c .offset) (c .size))

@@ -25,7 +25,7 @@ walks = record { no-row = refl; not-earlier = refl; goes-on = refl }
 
 values : Values
 unfolding ones onesIn entry-check one-bit eight-bits value-check hash
-values = record { found = refl; no-place = refl; wrong-check = refl; no-window = refl }
+values = record { found = refl; no-place = refl; no-check = refl; wrong-check = refl; no-window = refl }
 
 starts : Starts
 unfolding ones onesIn entry-check one-bit eight-bits value-check hash

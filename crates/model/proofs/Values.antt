@@ -4,13 +4,13 @@ use mathlib.Core.Bool.{true, false, _&&_}
 use mathlib.Core.List.{List, [], _∷_}
 use Prim.Native.Nat.{ℕ, zero, suc, _+_, _-_, _^_, _<_}
 use native.Mathlib.Omega.{arith}
-use lib.Dec.{eqb}
+use lib.Dec.{eqb, ltb}
 use lib.ListN.{length, take, drop, length-append}
 use Rattle.std.specs.shelf.Digits.{Under}
 use Rattle.std.specs.declared.option.Option.the-variants.{Some}
 use Rattle.std.specs.declared.result.Result.the-variants.{Ok}
 use Rattle.std.proofs.shelf.Lists.{take-at, drop-at}
-use Rattle.std.proofs.shelf.Tests.{eq-eqb, ne-eqb, and-from, and-left, and-right, cond-true, cond-false}
+use Rattle.std.proofs.shelf.Tests.{eq-eqb, ne-eqb, and-from, and-left, and-right, le-ltb, cond-true, cond-false}
 use Rattle.crc32c.proofs.Fits.{crc-fits}
 use Rattle.codec.specs.Bytes.{be, number}
 use Rattle.codec.specs.Kinds.{Kinds, Lawful}
@@ -65,5 +65,6 @@ module _ {K V : Type 0} (kinds : Kinds K V) (lawful : Lawful kinds) where
       let c : Cursor = record { section = s; offset = stored-bytes (take p (j .rows s)); size = length (r .stored) } in
       let l : length (r .stored) ≡ length (kinds .encode x) + 4 = ap length e ∙ length-stored (kinds .encode x) in
       ap (value-there (kinds .decode) c) (stored-found 0 (stored-bytes (take p (j .rows s))) (j .rows s) p r q (omega arith) (omega arith))
+      ∙ cond-false (ltb (length (r .stored)) 4) _ _ (le-ltb (length (r .stored)) 4 (omega arith))
       ∙ ap (checked (kinds .decode) c) e
       ∙ checked-stored c x

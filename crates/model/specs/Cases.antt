@@ -38,12 +38,15 @@ use Rattle.model.specs.Runs.{Module, Call, init, put, sync-call, open-effect, 
 
 -- ---- the kinds of the cases
 
+-- as the kind Serial has them
 abbrev pub serial-bytes : Serial → List ℕ
 serial-bytes s = be 8 (s .value)
 
+-- windows under serials
 abbrev pub windows : Kinds Serial Window
 windows = kinds 8 serial-bytes window-bytes window-read
 
+-- sealed values under serials
 abbrev pub seals : Kinds Serial Sealed
 seals = kinds 8 serial-bytes sealed-bytes sealed-read
 
@@ -69,6 +72,7 @@ abbrev pub numbers-of : Option Numbers → Numbers
 numbers-of (Some v) = v
 numbers-of None = begun (record { «initial_size» = 0; «resize_frequency» = 0; «resize_chunk_size» = 0; «target_size» = 0 }) 0 0 0 0 0
 
+-- and of the freezer open in a module
 abbrev pub numbers : Module-of-windows → Numbers
 numbers m = numbers-of (m .freezer)
 
@@ -98,12 +102,14 @@ three = serial 3 (lit< tt)
 abbrev pub putting : Serial → Module-of-windows → Module-of-windows
 putting k m = after m (put k window)
 
+-- what a put answers
 abbrev pub cursor-of : Serial → Module-of-windows → Result Cursor Fault
 cursor-of k m = put-answer windows (numbers m) (m .table) (m .journal) true k window
 
 abbrev pub syncing : Module-of-windows → Module-of-windows
 syncing m = after m sync-call
 
+-- what a sync answers
 abbrev pub checkpoint-of : Module-of-windows → Result Checkpoint Fault
 checkpoint-of m = sync-answer windows (numbers m) (m .table) (m .journal)
 
@@ -194,6 +200,7 @@ pub record Case-8 : Type 0 where
   pub read : isSome (sealed-read (replicate 512 7)) ≡ true
   pub unread : sealed-read (replicate 513 7) ≡ None
 
+-- all together
 pub record Eight-cases : Type 0 where
   pub case-1 : Case-1
   pub case-2 : Case-2

@@ -23,6 +23,7 @@ use Rattle.model.specs.declared.Fault.the-variants.{EqualEpochs, Table, Journa
 
 -- ---- tests in their order
 
+-- a fault where a test holds
 abbrev pub refuse : Bool → Fault → Option Fault
 refuse b f = cond b (Some f) None
 
@@ -42,6 +43,7 @@ abbrev pub unless : {A : Type 0} → Option Fault → A → A → A
 unless (Some f) refused done = refused
 unless None refused done = done
 
+-- what a call answers, by its fault
 abbrev pub answered : {A : Type 0} → Option Fault → A → Result A Fault
 answered (Some f) a = Err f
 answered None a = Ok a
@@ -58,6 +60,7 @@ abbrev pub count : ℕ → (ℕ → Bool) → ℕ
 count zero f = 0
 count (suc n) f = count n f + cond (f n) 1 0
 
+-- the first of two
 abbrev pub or-else : Option ℕ → Option ℕ → Option ℕ
 or-else (Some i) o = Some i
 or-else None o = o
@@ -69,9 +72,11 @@ lowest (suc n) f = or-else (lowest n f) (cond (f n) (Some n) None)
 
 -- ---- numbers
 
+-- the largest number of 8 bytes
 abbrev pub last : ℕ
 last = 2 ^ 64 - 1
 
+-- just one of its bits is 1
 abbrev pub power-of-two : ℕ → Bool
 power-of-two n = eqb (ones n) 1
 
@@ -85,6 +90,7 @@ earlier s p section position = ltb s section || (eqb s section && ltb p position
 
 -- ---- pairs
 
+-- the check of a key's bytes
 unfoldable pub hash : List ℕ → ℕ
 hash bytes = crc bytes
 
@@ -92,6 +98,7 @@ hash bytes = crc bytes
 abbrev pub table-index : {K V : Type 0} → Kinds K V → ℕ → K → ℕ
 table-index kinds size k = hash (kinds .bytes k) % size
 
+-- two whole entries of one epoch
 abbrev pub is-equal : Head → Bool
 is-equal Vacant = false
 is-equal (Latest h) = false
@@ -103,6 +110,7 @@ is-due frequency Vacant = false
 is-due frequency (Latest h) = leb frequency (h .added)
 is-due frequency Equal = false
 
+-- the head of pair i
 abbrev pub head-at : List Entry → ℕ → Head
 head-at cells i = head (slot-0 cells i) (slot-1 cells i)
 
@@ -119,5 +127,6 @@ equal-at (Some i) = Some (EqualEpochs i)
 abbrev pub pair-past : TableMeaning → ℕ → Option Fault
 pair-past t i = past-end t (2 * i) then past-end t (2 * i + 1)
 
+-- 9 where one pair is read
 abbrev pub pair-equal : TableMeaning → ℕ → Option Fault
 pair-equal t i = refuse (is-equal (head-at (t .cells) i)) (EqualEpochs i)

@@ -96,10 +96,11 @@ pub record Walks : Type 0 where
   pub not-earlier : has-answer windows (numbers-at 1 None 6 0) head-at-1 (rows-of (row two 0 0 good ∷ row two 0 1 good ∷ [])) one ≡ Err (NotEarlier 0 1)
   pub goes-on : get-answer windows (numbers-at 1 None 6 0) head-at-1 chain one ≡ Ok (Some window)
 
--- 16, 17, 18: no row has this place, a wrong check, bytes that are no window
+-- 16, 17, 18: no row has this place, or too few bytes for a check; a wrong check, bytes that are no window
 pub record Values : Type 0 where
   pub found : get-cursor windows (numbers-at 1 None 6 0) (table-of []) chain (cursor 0 20 20) ≡ Ok (Some window)
   pub no-place : get-cursor windows (numbers-at 1 None 6 0) (table-of []) chain (cursor 0 19 20) ≡ Err (Journal (NoValue (cursor 0 19 20)))
+  pub no-check : get-cursor windows (numbers-at 1 None 6 0) (table-of []) (rows-of (row one last last (0 ∷ 0 ∷ 0 ∷ []) ∷ [])) (cursor 0 0 3) ≡ Err (Journal (NoValue (cursor 0 0 3)))
   pub wrong-check : get-cursor windows (numbers-at 1 None 6 0) (table-of []) (rows-of (row one last last (0 ∷ 0 ∷ 0 ∷ 9 ∷ []) ∷ [])) (cursor 0 0 4) ≡ Err (Journal (Check 9 0))
   pub no-window : get-cursor windows (numbers-at 1 None 6 0) (table-of []) (rows-of (row one last last (stored-of []) ∷ [])) (cursor 0 0 4) ≡ Err (Journal (Kind (Some (cursor 0 0 4))))
 
@@ -113,6 +114,7 @@ pub record Starts : Type 0 where
   pub cleaned : init-table windows (settings 1 2 1 100) (Some (checkpoint 5 0 0 2)) (table-of (entry 6 0 0 1 ∷ empty ∷ e5 ∷ e5′ ∷ empty ∷ [])) no-journal ≡ resize 4 ∷ write 0 empty ∷ []
   pub restored : init-journal windows (settings 1 2 1 100) (Some (checkpoint 5 0 0 2)) (table-of (entry 6 0 0 1 ∷ empty ∷ e5 ∷ e5′ ∷ empty ∷ [])) no-journal ≡ restore 0 0 ∷ []
 
+-- all together
 pub record Edge-cases : Type 0 where
   pub past-end : Past-end
   pub equal-epochs : Equal-epochs

@@ -6,6 +6,7 @@ use Rattle.journal.specs.Faults.{journal-number, journal-details}
 use Rattle.model.specs.declared.Fault.{Fault}
 use Rattle.model.specs.declared.Fault.the-variants.{InitialSize, Frequency, ChunkSize, CheckpointSize, CheckpointEpoch, ShortTable, EqualEpochs, LastSection, LastEpoch, NotEarlier, Table, Journal}
 
+-- the number of each fault
 abbrev pub fault-number : Fault → ℕ
 fault-number InitialSize = 1
 fault-number Frequency = 2

@@ -37,6 +37,7 @@ module _ {K V : Type 0} (kinds : Kinds K V) (rows : ℕ → List (Row K)) (k : K
   Adds-by true r rest all = (x : V) × (r .stored ≡ stored-of (kinds .encode x)) × (all ≡ x ∷ rest)
   Adds-by false r rest all = all ≡ rest
 
+  -- the same, by whether the row bears the key
   abbrev pub Adds : Row K → List V → List V → Type 0
   Adds r rest all = Adds-by (sameBytes (kinds .bytes (r .key)) (kinds .bytes k)) r rest all
 
@@ -46,6 +47,7 @@ module _ {K V : Type 0} (kinds : Kinds K V) (rows : ℕ → List (Row K)) (k : K
     goes : (s p : ℕ) (r : Row K) (rest all : List V) → row-at (rows s) p ≡ Some r → has-no-next r ≡ false →
         earlier (r .next-section) (r .next-position) s p ≡ true → Met (r .next-section) (r .next-position) rest → Adds r rest all → Met s p all
 
+  -- from the head of a pair
   abbrev pub Met-from : Head → List V → Type 0
   Met-from Vacant all = all ≡ []
   Met-from (Latest h) all = Met (h .section) (h .position) all
@@ -57,10 +59,12 @@ Trail kinds v t j k all = Met-from kinds (j .rows) k (head-at (t .cells) (table-
 
 -- ---- the law
 
+-- what get answers of a trail
 abbrev pub first : {V : Type 0} → List V → Option V
 first [] = None
 first (x ∷ xs) = Some x
 
+-- what has answers of a trail
 abbrev pub is-there : {V : Type 0} → List V → Bool
 is-there [] = false
 is-there (x ∷ xs) = true
@@ -78,6 +82,7 @@ module _ {K V : Type 0} (kinds : Kinds K V) where
     pub run : Run kinds events m
     pub freezer : m .freezer ≡ Some v
 
+  -- the law, for two kinds; m is a module, v the numbers of the freezer open in it
   pub record Law : Type 0 where
     -- a key has at most one trail
     pub one-trail : (v : Numbers) (t : TableMeaning) (j : JournalMeaning K) (k : K) (all more : List V) → Trail kinds v t j k all → Trail kinds v t j k more → all ≡ more

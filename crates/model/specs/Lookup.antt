@@ -22,6 +22,7 @@ use Rattle.model.specs.declared.Fault.{Fault}
 use Rattle.model.specs.declared.Fault.the-variants.{NotEarlier, Journal}
 use Rattle.model.specs.Common.{_then_, last, earlier, table-index, head-at, pair-past, pair-equal}
 
+-- all ones mean none
 abbrev pub has-no-next : {K : Type 0} → Row K → Bool
 has-no-next r = eqb (r .next-section) last && eqb (r .next-position) last
 
@@ -45,12 +46,14 @@ module _ {K V : Type 0} (kinds : Kinds K V) (rows : ℕ → List (Row K)) (k : K
   walk zero s p = Err (Journal (NoRow s p))
   walk (suc fuel) s p = met s p (λ a b. walk fuel a b) (row-at (rows s) p)
 
+  -- from the head of a pair
   abbrev pub walk-from : Head → Result (Option Cursor) Fault
   walk-from Vacant = Ok None
   walk-from (Latest h) = walk (suc (rows-below rows (h .section) + h .position)) (h .section) (h .position)
   walk-from Equal = Ok None
 
 module _ {K V : Type 0} (kinds : Kinds K V) (v : Numbers) (t : TableMeaning) (j : JournalMeaning K) where
+  -- the walk, unless the pair stops it
   abbrev pub found-by : Option Fault → Result (Option Cursor) Fault → Result (Option Cursor) Fault
   found-by (Some f) r = Err f
   found-by None r = r
@@ -61,25 +64,31 @@ module _ {K V : Type 0} (kinds : Kinds K V) (v : Numbers) (t : TableMeaning) (j 
       let i = table-index kinds (v .«table_size») k in
       found-by (pair-past t i then pair-equal t i) (walk-from kinds (j .rows) k (head-at (t .cells) i))
 
+  -- the journal's answer, its fault whole
   abbrev pub lifted : {A : Type 0} → Result A JournalFault → Result (Option A) Fault
   lifted (Ok a) = Ok (Some a)
   lifted (Err f) = Err (Journal f)
 
+  -- get by cursor: 16, 17, 18
   abbrev pub get-cursor : Cursor → Result (Option V) Fault
   get-cursor c = lifted (value-answer (kinds .decode) j c)
 
+  -- the value of the row found
   abbrev pub get-found : Result (Option Cursor) Fault → Result (Option V) Fault
   get-found (Err f) = Err f
   get-found (Ok None) = Ok None
   get-found (Ok (Some c)) = get-cursor c
 
+  -- get by key
   abbrev pub get-answer : K → Result (Option V) Fault
   get-answer k = get-found (find-key k)
 
+  -- whether a row was found
   abbrev pub has-found : Result (Option Cursor) Fault → Result Bool Fault
   has-found (Err f) = Err f
   has-found (Ok None) = Ok false
   has-found (Ok (Some c)) = Ok true
 
+  -- has
   abbrev pub has-answer : K → Result Bool Fault
   has-answer k = has-found (find-key k)

@@ -31,11 +31,13 @@ place-section Vacant = last
 place-section (Latest h) = h .section
 place-section Equal = last
 
+-- and its position
 abbrev pub place-position : Head → ℕ
 place-position Vacant = last
 place-position (Latest h) = h .position
 place-position Equal = last
 
+-- and how many rows were added
 abbrev pub head-added : Head → ℕ
 head-added Vacant = 0
 head-added (Latest h) = h .added
@@ -50,22 +52,28 @@ extended (Some r) s = Some (r .0, s)
 abbrev pub is-full : Numbers → Bool
 is-full v = leb (v .«target_size») (v .«current_value_size»)
 
+-- the section that the row goes to
 abbrev pub put-section : Numbers → ℕ
 put-section v = cond (is-full v) (v .«current_section» + 1) (v .«current_section»)
 
 module _ {K V : Type 0} (kinds : Kinds K V) (v : Numbers) (t : TableMeaning) (j : JournalMeaning K) (fits : Bool) (k : K) (x : V) where
+  -- the key's pair
   abbrev pub put-index : ℕ
   put-index = table-index kinds (v .«table_size») k
 
+  -- the slot that the new head goes to
   abbrev pub put-slot : ℕ
   put-slot = slot (v .«next_epoch») (slot-0 (t .cells) put-index) (slot-1 (t .cells) put-index)
 
+  -- the head that the row follows
   abbrev pub put-head : Head
   put-head = head-at (t .cells) put-index
 
+  -- one more than the head has, at most 255
   abbrev pub put-added : ℕ
   put-added = min 255 (head-added put-head + 1)
 
+  -- is the image written too
   abbrev pub mirrors : Bool
   mirrors = above (v .«resize_progress») put-index
 
@@ -73,9 +81,11 @@ module _ {K V : Type 0} (kinds : Kinds K V) (v : Numbers) (t : TableMeaning) (j 
   abbrev pub put-image : ℕ
   put-image = 2 * (v .«table_size» + put-index) + put-slot
 
+  -- where its stored value begins
   abbrev pub put-offset : ℕ
   put-offset = value-end j (put-section v)
 
+  -- the size of its stored value
   abbrev pub put-size : ℕ
   put-size = length (stored-of (kinds .encode x))
 
@@ -88,6 +98,7 @@ module _ {K V : Type 0} (kinds : Kinds K V) (v : Numbers) (t : TableMeaning) (j 
       then refuse (is-full v && leb last (v .«current_section»)) LastSection
       then of-journal (append-fault fits (record-bytes kinds) j (put-section v) put-size)
 
+  -- the new head
   abbrev pub put-entry : Entry
   put-entry = entry (v .«next_epoch») (put-section v) (length (j .rows (put-section v))) put-added
 
@@ -95,6 +106,7 @@ module _ {K V : Type 0} (kinds : Kinds K V) (v : Numbers) (t : TableMeaning) (j 
   abbrev pub put-due : ℕ
   put-due = raised (mirrors && eqb put-added (v .«resize_frequency»)) (raised (eqb put-added (v .«resize_frequency»)) (v .resizable))
 
+  -- the numbers afterwards
   abbrev pub after-put : Numbers
   after-put = record {
     «table_size» = v .«table_size»;
@@ -110,17 +122,22 @@ module _ {K V : Type 0} (kinds : Kinds K V) (v : Numbers) (t : TableMeaning) (j 
     «modified_sections» = extended (v .«modified_sections») (put-section v);
   }
 
+  -- where the value lies
   abbrev pub put-cursor : Cursor
   put-cursor = record { section = put-section v; offset = put-offset; size = put-size }
 
+  -- the cursor, or the fault
   abbrev pub put-answer : Result Cursor Fault
   put-answer = answered put-fault put-cursor
 
+  -- the pair's slot, then the image's
   abbrev pub put-table : List Change
   put-table = unless put-fault [] (write (2 * put-index + put-slot) put-entry ∷ cond mirrors (write put-image put-entry ∷ []) [])
 
+  -- one row, whose next is the head
   abbrev pub put-journal : List (JournalChange K)
   put-journal = unless put-fault [] (append (put-section v) k (place-section put-head) (place-position put-head) (kinds .encode x) ∷ [])
 
+  -- the same where it is refused
   abbrev pub put-numbers : Numbers
   put-numbers = unless put-fault v after-put

@@ -27,6 +27,7 @@ use Rattle.model.specs.Sync.{sync-answer, sync-table, sync-journal, sync-numbe
 
 -- ---- calls and events
 
+-- a call with its arguments
 pub data Call (K V : Type 0) : Type 0 where
   init : Settings → Call K V
   put : K → V → Call K V
@@ -44,11 +45,13 @@ pub data Event (K V : Type 0) : Type 0 where
 
 -- ---- the ledger: it looks at a call's arguments and at whether it was accepted, at nothing else
 
+-- lines of key and value, and a copy of them
 pub record Ledger (K V : Type 0) : Type 0 where
   pub lines : List (K × V)
   pub copy : List (K × V)
 
 module _ {K V : Type 0} where
+  -- empty at first
   abbrev pub new-ledger : Ledger K V
   new-ledger = record { lines = []; copy = [] }
 
@@ -56,6 +59,7 @@ module _ {K V : Type 0} where
   abbrev pub taken-back : Ledger K V → Ledger K V
   taken-back l = record { lines = l .copy; copy = l .copy }
 
+  -- the copy becomes the lines
   abbrev pub copied : Ledger K V → Ledger K V
   copied l = record { lines = l .lines; copy = l .lines }
 
@@ -87,6 +91,7 @@ pub record Module (K V : Type 0) : Type 0 where
 
 -- ---- what a call asks, leaves and answers
 
+-- whether it was accepted, the changes asked, the freezer and the latest checkpoint afterwards
 pub record Effect (K : Type 0) : Type 0 where
   pub accepted : Bool
   pub table : List Change
@@ -94,6 +99,7 @@ pub record Effect (K : Type 0) : Type 0 where
   pub freezer : Option Numbers
   pub latest : Option Checkpoint
 
+-- was a call accepted
 abbrev pub is-ok : {A : Type 0} → Result A Fault → Bool
 is-ok (Ok a) = true
 is-ok (Err f) = false
@@ -109,6 +115,7 @@ closed (Ok a) v = None
 closed (Err f) v = Some v
 
 module _ {K V : Type 0} (kinds : Kinds K V) where
+  -- a lookup
   abbrev pub asks-nothing : Bool → Option Numbers → Option Checkpoint → Effect K
   asks-nothing ok v c = record { accepted = ok; table = []; journal = []; freezer = v; latest = c }
 
@@ -164,6 +171,7 @@ module _ {K V : Type 0} (kinds : Kinds K V) where
   since-after eager old [] = old
   since-after eager old (c ∷ cs) = since-after eager (cond (syncs c eager) [] (old ++ (c ∷ []))) cs
 
+  -- a module after a call
   abbrev pub after-done : Module K V → Call K V → Effect K → Module K V
   after-done m c e = record {
     freezer = e .freezer;
@@ -197,6 +205,7 @@ lengths len (write k e ∷ cs) = lengths len cs
 lengths len (resize n ∷ cs) = len ∷ lengths n cs
 lengths len (sync ∷ cs) = lengths len cs
 
+-- is x one of them
 abbrev pub Among : {A : Type 0} → A → List A → Type 0
 Among x [] = ⊥
 Among x (y ∷ ys) = (x ≡ y) ⊎ Among x ys
@@ -207,6 +216,7 @@ May-hold durable since i e =
     (e ≡ at durable i)
     ⊎ ((touched (length durable) since i ≡ true) × (Among e (written since i) ⊎ ((e ≡ empty) ⊎ (failing e ≡ true))))
 
+-- what a crash may leave of a table
 pub record Table-left (t : TableMeaning) (since : List Change) (left : TableMeaning) : Type 0 where
   pub held : Among (length (left .cells)) (lengths (length (t .durable)) since)
   pub entries : (i : ℕ) → i < length (left .cells) → May-hold (t .durable) since i (at (left .cells) i)
@@ -240,6 +250,7 @@ module _ {K V : Type 0} (kinds : Kinds K V) where
 
   -- ---- steps and runs
 
+  -- one event
   pub data Step (m : Module K V) : Event K V → Module K V → Type 0 where
     did : (c : Call K V) (fits : Bool) (e : Effect K) → Effects kinds m c fits e → Step m (done c fits) (after-done kinds m c e)
     -- any first part of the changes asked of each store, each on its own

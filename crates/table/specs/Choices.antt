@@ -45,6 +45,7 @@ pub record Written-upto (e : ℕ) (a b : Entry) : Type 0 where
 abbrev pub Spares : ℕ → Entry → Entry → ℕ → Type 0
 Spares e a b s = head-below e (cond (eqb s 0) empty a) (cond (eqb s 0) b empty) ≡ head-below e a b
 
+-- the cases, and the law of the choice
 pub record Choices : Type 0 where
   pub slots : (s p a s′ p′ a′ : ℕ) → Slot-cases s p a s′ p′ a′
   pub heads : (s p a s′ p′ a′ : ℕ) (e : Entry) → Head-cases s p a s′ p′ a′ e

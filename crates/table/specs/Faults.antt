@@ -4,6 +4,7 @@ use Prim.Native.Nat.{ℕ}
 use Rattle.table.specs.declared.fault.TableFault.{TableFault}
 use Rattle.table.specs.declared.fault.TableFault.the-variants.{TooMany, PastEnd}
 
+-- the number of each fault
 abbrev pub table-number : TableFault → ℕ
 table-number TooMany = 8
 table-number (PastEnd i) = 19
