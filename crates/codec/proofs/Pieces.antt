@@ -4,6 +4,7 @@ use mathlib.Core.List.{List, [], _∷_, _++_, append-assoc, append-nil}
 use Prim.Native.Nat.{ℕ, _+_, _-_, _≤_}
 use native.Mathlib.Omega.{arith}
 use lib.ListN.{length, take, drop, length-append}
+use lib.Seq.{take-add}
 use borrow.Rule.Slice.PartMut.{putMid}
 use Rattle.std.proofs.shelf.Lists.{take-at, drop-at, drop-drop, drop-all}
 
@@ -31,3 +32,7 @@ whole y z old l e =
 
 pub ended : (e : ℕ) (p out : List ℕ) → length out ≤ e → p ++ drop e out ≡ p
 ended e p out h = ap (λ r. p ++ r) (drop-all e out h) ∙ append-nil p
+
+-- two parts that stand one behind the other are read as one
+pub joined-on : (n k e : ℕ) (bs p q : List ℕ) → n + k ≡ e → p ≡ take n bs → q ≡ take k (drop n bs) → p ++ q ≡ take e bs
+joined-on n k e bs p q s hp hq = (λ i. hp i ++ hq i) ∙ sym (take-add n k bs) ∙ ap (λ m. take m bs) s

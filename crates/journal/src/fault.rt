@@ -1,4 +1,6 @@
 // What stops a journal, and where a value lies.
+ghost use mathlib.Core.Path.{_≡_};
+ghost use Rattle.journal.specs.Faults.{journal-number};
 
 // The place of a value: its section, where its stored bytes begin there, and how many they are with their check.
 #[derive(Clone, Copy)]
@@ -24,4 +26,20 @@ pub enum JournalFault {
     Check(u32, u32),
     // Bytes are no value of their kind, with their place where they have one.
     Kind(Option<Cursor>),
+}
+
+impl JournalFault {
+    pub fn number(&self) -> u8
+        ensures { λ r. ⌜ r ≡ journal-number (now (self .entry)) ⌝ }
+    {
+        match self {
+            JournalFault::Restore(_) => 7,
+            JournalFault::Full(_) => 10,
+            JournalFault::Below(_) => 13,
+            JournalFault::NoRow(_, _) => 14,
+            JournalFault::NoValue(_) => 16,
+            JournalFault::Check(_, _) => 17,
+            JournalFault::Kind(_) => 18,
+        }
+    }
 }

@@ -22,7 +22,7 @@ use Rattle.journal.specs.declared.fault.Cursor.{Cursor}
 use Rattle.journal.specs.declared.fault.JournalFault.{JournalFault}
 use Rattle.journal.specs.Rows.{Row, JournalMeaning, row-at, stored-of, checked, apply-all as apply-journal}
 use Rattle.std.specs.shelf.Text.{sameBytes}
-use Rattle.model.proofs.Values.{checked-stored}
+use Rattle.model.proofs.Values.{checked-back}
 use Rattle.model.specs.declared.Settings.{Settings}
 use Rattle.model.specs.declared.Checkpoint.{Checkpoint}
 use Rattle.model.specs.declared.Numbers.{Numbers}
@@ -83,7 +83,7 @@ module _ {K V : Type 0} (kinds : Kinds K V) where
     one-value : (x y : V) → stored-of (kinds .encode x) ≡ stored-of (kinds .encode y) → x ≡ y
     one-value x y e =
         let c : Cursor = record { section = 0; offset = 0; size = 0 } in
-        let r : _≡_ {A = Result V JournalFault} (Ok x) (Ok y) = sym (checked-stored kinds lawful c x) ∙ ap (checked (kinds .decode) c) e ∙ checked-stored kinds lawful c y in
+        let r : _≡_ {A = Result V JournalFault} (Ok x) (Ok y) = sym (checked-back kinds lawful c x) ∙ ap (checked (kinds .decode) c) e ∙ checked-back kinds lawful c y in
         cc
 
     adds-one : (b : Bool) (r : Row K) (rest all more : List V) → Adds-by kinds rows k b r rest all → Adds-by kinds rows k b r rest more → all ≡ more

@@ -11,41 +11,19 @@ use Rattle.std.specs.declared.option.Option.the-variants.{Some}
 use Rattle.std.specs.declared.result.Result.the-variants.{Ok}
 use Rattle.std.proofs.shelf.Lists.{take-at, drop-at}
 use Rattle.std.proofs.shelf.Tests.{eq-eqb, ne-eqb, and-from, and-left, and-right, le-ltb, cond-true, cond-false}
-use Rattle.crc32c.proofs.Fits.{crc-fits}
 use Rattle.codec.specs.Bytes.{be, number}
 use Rattle.codec.specs.Kinds.{Kinds, Lawful}
-use Rattle.codec.proofs.Rounds.{number-be}
 use Rattle.journal.specs.declared.fault.Cursor.{Cursor}
+use Rattle.journal.proofs.StoredBack.{length-stored, checked-stored}
 use Rattle.journal.specs.Rows.{Row, JournalMeaning, row-at, stored-bytes, stored-at, stored-of, encoding-of, check-of, value-check, value-answer, value-there, checked, decoded}
-
-check-fits : (bs : List ℕ) → Under 256 bs → value-check bs < 2 ^ 32
-unfolding value-check
-check-fits bs u = crc-fits bs u
-
-pub length-stored : (enc : List ℕ) → length (stored-of enc) ≡ length enc + 4
-length-stored enc = length-append enc (be 4 (value-check enc))
-
-encoding-back : (enc : List ℕ) → encoding-of (stored-of enc) ≡ enc
-encoding-back enc = let l = length-stored enc in let e : length (stored-of enc) - 4 ≡ length enc = omega arith in ap (λ (n : ℕ). take n (stored-of enc)) e ∙ take-at enc (be 4 (value-check enc)) (length enc) refl
-
-check-back : (enc : List ℕ) → Under 256 enc → check-of (stored-of enc) ≡ value-check enc
-check-back enc u =
-    let l = length-stored enc in
-    let e : length (stored-of enc) - 4 ≡ length enc = omega arith in
-    ap (λ (n : ℕ). number (drop n (stored-of enc))) e ∙ ap number (drop-at enc (be 4 (value-check enc)) (length enc) refl) ∙ number-be 4 (value-check enc) (check-fits enc u)
 
 not-here : (from o a b more : ℕ) → 0 < b → o ≡ from + (a + more) → (eqb from o && eqb a b) ≡ false
 not-here from o zero b more l e = and-right (eqb from o) _ (ne-eqb 0 b (λ z. omega arith))
 not-here from o (suc a) b more l e = and-left (eqb from o) _ (ne-eqb from o (λ z. omega arith))
 
 module _ {K V : Type 0} (kinds : Kinds K V) (lawful : Lawful kinds) where
-  pub checked-stored : (c : Cursor) (x : V) → checked (kinds .decode) c (stored-of (kinds .encode x)) ≡ Ok x
-  checked-stored c x =
-      let enc = kinds .encode x in
-      let e = encoding-back enc in
-      cond-true (eqb (value-check (encoding-of (stored-of enc))) (check-of (stored-of enc))) _ _ (eq-eqb _ _ (ap value-check e ∙ sym (check-back enc (lawful .encodes x))))
-      ∙ ap (λ (bs : List ℕ). decoded (kinds .decode) c (kinds .decode bs)) e
-      ∙ ap (decoded (kinds .decode) c) (lawful .decodes x)
+  pub checked-back : (c : Cursor) (x : V) → checked (kinds .decode) c (stored-of (kinds .encode x)) ≡ Ok x
+  checked-back c x = checked-stored (kinds .decode) (kinds .encode x) x (lawful .encodes x) (lawful .decodes x) c
 
   -- the stored value of a row stands behind those before it
   stored-found : (from o : ℕ) (rs : List (Row K)) (p : ℕ) (r : Row K) → row-at rs p ≡ Some r → 0 < length (r .stored) → o ≡ from + stored-bytes (take p rs) → stored-at from rs o (length (r .stored)) ≡ Some (r .stored)
@@ -67,4 +45,4 @@ module _ {K V : Type 0} (kinds : Kinds K V) (lawful : Lawful kinds) where
       ap (value-there (kinds .decode) c) (stored-found 0 (stored-bytes (take p (j .rows s))) (j .rows s) p r q (omega arith) (omega arith))
       ∙ cond-false (ltb (length (r .stored)) 4) _ _ (le-ltb (length (r .stored)) 4 (omega arith))
       ∙ ap (checked (kinds .decode) c) e
-      ∙ checked-stored c x
+      ∙ checked-back c x

@@ -1,10 +1,11 @@
 -- The 29 bytes of an entry, there and back.
-use mathlib.Core.Path.{_≡_, sym, ap, _∙_}
+use mathlib.Core.Path.{_≡_, refl, _∙_}
 use mathlib.Core.List.{List, _++_}
 use Prim.Native.Nat.{ℕ, _+_, _^_, _<_}
 use native.Mathlib.Omega.{arith}
 use lib.ListN.{length, take, drop, length-drop, take-append-drop}
 use Rattle.std.proofs.shelf.Lists.{drop-drop, take-all}
+use Rattle.codec.proofs.Pieces.{joined-on}
 use Rattle.codec.proofs.Rounds.{number-be}
 use Rattle.table.specs.declared.entry.Entry.{Entry}
 use Rattle.table.specs.Entries.{entry-bytes, entry-read}
@@ -19,15 +20,8 @@ entry-back e a b c d f = λ i. record {
   crc = number-be 4 (e .crc) f i;
 }
 
-cut : (k n : ℕ) (bs : List ℕ) → take k (drop n bs) ++ drop (n + k) bs ≡ drop n bs
-cut k n bs = ap (λ xs. take k (drop n bs) ++ xs) (sym (drop-drop k n bs)) ∙ take-append-drop k (drop n bs)
-
 -- 29 bytes are their parts
-pub entry-parts : (bs a b c d e : List ℕ) → length bs ≡ 29 → a ≡ take 8 bs → b ≡ take 8 (drop 8 bs) → c ≡ take 8 (drop 16 bs) → d ≡ take 1 (drop 24 bs) → e ≡ take 4 (drop 25 bs) → a ++ (b ++ (c ++ (d ++ e))) ≡ bs
+pub entry-parts : (bs a b c d e : List ℕ) → length bs ≡ 29 → a ≡ take 8 bs → b ≡ take 8 (drop 8 bs) → c ≡ take 8 (drop 16 bs) → d ≡ take 1 (drop 24 bs) → e ≡ take 4 (drop 25 bs) → (((a ++ b) ++ c) ++ d) ++ e ≡ bs
 entry-parts bs a b c d e l ha hb hc hd he =
-    let last : take 4 (drop 25 bs) ≡ drop 25 bs = take-all 4 (drop 25 bs) (omega (arith, length-drop 25 bs)) in
-    (λ i. ha i ++ (hb i ++ (hc i ++ (hd i ++ (he ∙ last) i))))
-    ∙ ap (λ xs. take 8 bs ++ (take 8 (drop 8 bs) ++ (take 8 (drop 16 bs) ++ xs))) (cut 1 24 bs)
-    ∙ ap (λ xs. take 8 bs ++ (take 8 (drop 8 bs) ++ xs)) (cut 8 16 bs)
-    ∙ ap (λ xs. take 8 bs ++ xs) (cut 8 8 bs)
-    ∙ take-append-drop 8 bs
+    joined-on 25 4 29 bs _ e refl (joined-on 24 1 25 bs _ d refl (joined-on 16 8 24 bs _ c refl (joined-on 8 8 16 bs a b refl ha hb) hc) hd) he
+    ∙ take-all 29 bs (omega arith)
