@@ -1,11 +1,11 @@
 -- A stored value is read again.
 use mathlib.Core.Path.{_≡_, refl, sym, ap, _∙_}
 use mathlib.Core.Bool.{cond}
-use mathlib.Core.List.{List}
+use mathlib.Core.List.{List, _++_}
 use Prim.Native.Nat.{ℕ, _+_, _-_, _^_, _≤_, _<_}
 use native.Mathlib.Omega.{arith}
 use lib.Dec.{eqb, ltb}
-use lib.ListN.{length, take, drop, length-append}
+use lib.ListN.{length, take, drop, length-append, take-append-drop}
 use Rattle.std.specs.declared.option.Option.{Option}
 use Rattle.std.specs.declared.option.Option.the-variants.{Some, None}
 use Rattle.std.specs.declared.result.Result.the-variants.{Ok, Err}
@@ -73,3 +73,10 @@ module _ {V : Type 0} (decode : List ℕ → Option V) (c : Cursor) (stored : Li
   reads-right q r e =
       ap (decoded decode c) (e ∙ ap decode front)
       ∙ sym (there ∙ cond-true (eqb (value-check (encoding-of stored)) (check-of stored)) _ _ (eq-eqb _ _ (sym own-is ∙ q ∙ check-is)))
+
+  -- and the value that is read is stored as these bytes
+  pub reads-back : be 4 check ≡ take (length stored - (length stored - 4)) (drop (length stored - 4) stored) → own ≡ check → (e : List ℕ) → e ≡ take (length stored - 4 - 0) stored → stored-of e ≡ stored
+  reads-back b q e h =
+      let enc : e ≡ encoding-of stored = h ∙ front in
+      let rest : be 4 (value-check e) ≡ drop (length stored - 4) stored = ap (be 4) (ap value-check enc ∙ sym own-is ∙ q) ∙ b ∙ take-rest stored (length stored - 4) in
+      (λ i. enc i ++ rest i) ∙ take-append-drop (length stored - 4) stored

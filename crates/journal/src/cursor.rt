@@ -24,6 +24,10 @@ impl Cursor {
         ensures value { λ r. ⌜ r ≡ cursor-read (now (from .entry)) ⌝ }
         ensures back { λ r. ⌜ cursor-bytes r ≡ now (from .entry) ⌝ }
     {
-        Cursor { section: take_u64(&from[0..8]), offset: take_u64(&from[8..16]), size: take_u32(&from[16..20]) }
+        Cursor {
+            section: take_u64(&from[0..8]),
+            offset: take_u64(&from[8..16]),
+            size: take_u32(&from[16..20]),
+        }
     }
 }

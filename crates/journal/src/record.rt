@@ -2,7 +2,7 @@
 ghost use mathlib.Core.Path.{_≡_};
 ghost use Prim.Native.Nat.{_+_};
 ghost use lib.ListN.{length};
-ghost use Rattle.journal.specs.Layouts.{record-encoding};
+ghost use Rattle.journal.specs.Layouts.{Record-fits, record-encoding};
 use codec::Key;
 use codec::put_u32;
 use codec::put_u64;
@@ -32,10 +32,11 @@ impl<K: Key> Record<K> {
         put_u32(&mut out[wide + 24..wide + 28], self.value_size);
     }
 
-    // The record that bytes write: it encodes to them again.
+    // The record that bytes write: it encodes to them again, and no other does.
     pub fn decode(from: &[u8]) -> Record<K>
         requires { ⌜ length (now from) ≡ K·Key .width + 28 ⌝ }
-        ensures { λ r. ⌜ record-encoding (K·Key .bytes) r ≡ now (from .entry) ⌝ }
+        ensures back { λ r. ⌜ record-encoding (K·Key .bytes) r ≡ now (from .entry) ⌝ }
+        ensures one { λ r. ⌜ ((s : Record K) → Record-fits s → record-encoding (K·Key .bytes) s ≡ now (from .entry) → r ≡ s) ⌝ }
     {
         let wide = K::wide();
         Record {

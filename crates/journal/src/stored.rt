@@ -25,9 +25,10 @@ pub fn write_stored<V: Value>(out: &mut [u8], value: &V)
 }
 
 // The value of stored bytes at a place: 16 where they are too few for a check, 17 where the check is wrong, 18 where they
-// are no value of the kind.
+// are no value of the kind. A value that is read is stored as these bytes.
 pub fn read_stored<V: Value>(stored: &[u8], place: Cursor) -> Result<V, JournalFault>
-    ensures { λ r. ⌜ r ≡ value-there decoding place (Some (now (stored .entry))) ⌝ }
+    ensures answer { λ r. ⌜ r ≡ value-there decoding place (Some (now (stored .entry))) ⌝ }
+    ensures back { λ r. ⌜ ((v : V) → r ≡ Ok v → stored-of (encoding v) ≡ now (stored .entry)) ⌝ }
 {
     let len = stored.len();
     if len < 4 {

@@ -1,8 +1,12 @@
-// A reader over short, cut and damaged logs.
+// A reader over short, cut and damaged logs; records, cursors and stored values.
+use crate::Cursor;
 use crate::LogReader;
+use crate::Record;
 use crate::Step;
+use crate::read_stored;
 use crate::row_size;
 use crate::write_row;
+use crate::write_stored;
 use codec::Serial;
 use codec::SerialKey;
 use codec::Window;
@@ -183,4 +187,67 @@ fn falling() -> Result<(), Fail> {
     check(matches!(reader.step(), Step::Row { at: 58, section: 3, next_section: 3, next_position: 0, .. }))?;
     check(matches!(reader.step(), Step::Blank { at: 116 }))?;
     check(matches!(reader.step(), Step::Blank { at: 116 }))
+}
+
+#[test]
+fn records() -> Result<(), Fail> {
+    let record = Record {
+        key: Serial { value: 7 },
+        next_section: 1,
+        next_position: 2,
+        value_offset: 3,
+        value_size: 4,
+    };
+    let mut bytes = [0u8; 36];
+    record.encode(&mut bytes);
+    check(bytes[7] == 7 && bytes[15] == 1 && bytes[23] == 2 && bytes[31] == 3 && bytes[35] == 4)?;
+    let back = Record::<Serial>::decode(&bytes);
+    check(back.key.value == 7 && back.next_section == 1 && back.next_position == 2)?;
+    check(back.value_offset == 3 && back.value_size == 4)?;
+    let mut room = [0u8; 20];
+    Cursor {
+        section: 1,
+        offset: 2,
+        size: 3,
+    }.encode(&mut room);
+    let cursor = Cursor::decode(&room);
+    check(cursor.section == 1 && cursor.offset == 2 && cursor.size == 3)
+}
+
+// The number of what stops a reading, 0 where nothing does.
+fn stopped(stored: &[u8]) -> u8 {
+    let place = Cursor {
+        section: 0,
+        offset: 0,
+        size: 0,
+    };
+    match read_stored::<Window>(stored, place) {
+        Ok(_) => 0,
+        Err(fault) => fault.number(),
+    }
+}
+
+// A stored window of 20 bytes, cut at every length and with a byte flipped at every offset.
+#[test]
+fn stored() -> Result<(), Fail> {
+    let mut bytes = [0u8; 20];
+    write_stored(&mut bytes, &Window::new(5, 9));
+    check_eq(stopped(&bytes), 0)?;
+    for len in 0..20usize {
+        // Its first four bytes are zero, which is the check of no bytes.
+        let number = if len < 4 {
+            16
+        } else if len == 4 {
+            18
+        } else {
+            17
+        };
+        check_eq(stopped(&bytes[0..len]), number)?;
+    }
+    for at in 0..20usize {
+        let mut other = bytes;
+        other[at] ^= 1;
+        check_eq(stopped(&other), 17)?;
+    }
+    check_eq(stopped(&[0u8; 4]), 18)
 }
