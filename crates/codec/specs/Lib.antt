@@ -3,11 +3,9 @@ pub mod Bytes
 pub mod Faults
 pub mod Kinds
 pub mod Kept
-pub mod Keys
 pub mod Windows
 pub mod Seals
 pub mod Rounds
-pub mod FingerprintKeyLemmas
 pub mod SealedOf
 pub mod WindowOf
 pub mod Halves

@@ -11,9 +11,6 @@ pub trait Key: Sized {
 
     ghost bytes: { Self → List ℕ };
 
-    // The key that a run of bytes of that width is; some key for any other list.
-    ghost decoding: { List ℕ → Self };
-
     fn wide() -> usize
         ensures { result ≡ width };
 
@@ -37,7 +34,7 @@ pub trait Key: Sized {
     ghost same: { (j k : Self) → bytes j ≡ bytes k → j ≡ k };
 
     // Every run of bytes of that width is some key's.
-    ghost onto: { (bs : List ℕ) → length bs ≡ width → AllBelowBase 256 bs → bytes (decoding bs) ≡ bs };
+    ghost onto: { (bs : List ℕ) → length bs ≡ width → AllBelowBase 256 bs → (k : Self) × (bytes k ≡ bs) };
 }
 
 fn same_bytes(a: &[u8], b: &[u8]) -> bool

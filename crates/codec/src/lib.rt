@@ -1,4 +1,6 @@
 // Numbers as bytes, and what a kind of key and a kind of value are.
+#![tactic(auto)]
+
 mod bytes;
 mod fault;
 mod fingerprint;
@@ -10,7 +12,7 @@ mod tests;
 mod value;
 mod window;
 
-pub use bytes::{put_u8, put_u32, put_u64, take_u8, take_u32, take_u64, zero_part};
+pub use bytes::{put_u8, put_u32, put_u64, take_u8, take_u32, take_u64};
 pub use fault::KindFault;
 pub use fingerprint::Fingerprint;
 pub use key::{Key, same_key};

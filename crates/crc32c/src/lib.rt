@@ -1,4 +1,6 @@
 // CRC-32C, the check of RFC 3720, a byte at a time by a table.
+#![tactic(auto)]
+
 ghost use Rattle.std.specs.Prelude.{◌≡◌, ◌++◌, bit_xor};
 ghost use Rattle.crc32c.specs.Crc.{eight_bits, register, ones, crc};
 

@@ -1,15 +1,19 @@
-// What a journal is and means; its records, stored values and cursors.
-mod above;
+// The journal: its log, row by row, and what a journal means.
+#![tactic(auto)]
+
 mod cursor;
 mod fault;
+mod reader;
 mod record;
-mod store;
+mod step;
 mod stored;
 #[cfg(test)]
 mod tests;
+mod writer;
 
-pub use above::{append_and_read, restore_whole, row_count};
 pub use fault::{Cursor, JournalFault};
-pub use record::{Record, write_record};
-pub use store::Journal;
+pub use reader::LogReader;
+pub use record::Record;
+pub use step::Step;
 pub use stored::{read_stored, write_stored};
+pub use writer::{row_size, write_row};

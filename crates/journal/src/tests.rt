@@ -1,6 +1,155 @@
-// Records, cursors and stored values.
-use crate::{Cursor, Record, read_stored, write_stored};
+// A reader over short, cut and damaged logs; records, cursors and stored values.
+use crate::{Cursor, LogReader, Record, Step, read_stored, row_size, write_row, write_stored};
 use codec::{Key, Serial, Value, Window};
+
+// One row of 58 bytes: serial 7, the window 5 to 9, in section 3, with no next.
+fn one_row() -> [u8; 58] {
+    let mut log = [0u8; 58];
+    write_row(
+        &mut log,
+        3,
+        &Serial { value: 7 },
+        u64::MAX,
+        u64::MAX,
+        &Window::new(5, 9),
+    );
+    log
+}
+
+fn first_step(log: &[u8]) -> Step<'_> {
+    let mut reader = LogReader::<Serial>::new(log);
+    reader.step()
+}
+
+// Which of section, key, next section, next position and value differ from the row's own; none where no row is shown.
+fn differs(log: &[u8]) -> Option<[bool; 5]> {
+    let own = one_row();
+    match first_step(log) {
+        Step::Row {
+            section,
+            key,
+            next_section,
+            next_position,
+            value,
+            ..
+        } => Some([
+            section != 3,
+            key != &own[10..18],
+            next_section != u64::MAX,
+            next_position != u64::MAX,
+            value != &own[38..54],
+        ]),
+        _ => None,
+    }
+}
+
+// The example of docs/FORMATS.md.
+#[test]
+fn laid_out(rt: HostRuntime) {
+    let bytes = [
+        0x46, 0x5a, 0, 0, 0, 0, 0, 0, 0, 3, 0, 0, 0, 0, 0, 0, 0, 7, 0xff, 0xff, 0xff, 0xff, 0xff,
+        0xff, 0xff, 0xff, 0xff, 0xff, 0xff, 0xff, 0xff, 0xff, 0xff, 0xff, 0, 0, 0, 0x10, 0, 0, 0,
+        0, 0, 0, 0, 5, 0, 0, 0, 0, 0, 0, 0, 9, 0x10, 0x33, 0x55, 0x5d,
+    ];
+    assert!(rt; one_row() == bytes);
+}
+
+#[test]
+fn cut(rt: HostRuntime) {
+    let log = one_row();
+    assert_eq!(rt; row_size::<Serial, Window>(&Window::new(5, 9)), 58);
+    for len in 0..2usize {
+        assert!(rt; matches!(first_step(&log[0..len]), Step::Blank { at: 0 }));
+    }
+    for len in 2..58usize {
+        assert!(rt; matches!(first_step(&log[0..len]), Step::Spoiled { at: 0 }));
+    }
+    assert_eq!(rt; differs(&log), Some([false; 5]));
+}
+
+#[test]
+fn flipped(rt: HostRuntime) {
+    // Where each part of the row begins, and what a flipped byte of it shows: one part changed, or a spoiled tail.
+    let parts: [(usize, Option<[bool; 5]>); 6] = [
+        (0, None),
+        (2, Some([true, false, false, false, false])),
+        (10, Some([false, true, false, false, false])),
+        (18, Some([false, false, true, false, false])),
+        (26, Some([false, false, false, true, false])),
+        (34, None),
+    ];
+    for at in 0..58usize {
+        let mut shows = None;
+        for (from, part) in parts {
+            if at >= from {
+                shows = part;
+            }
+        }
+        let mut log = one_row();
+        log[at] ^= 1;
+        assert_eq!(rt; differs(&log), shows);
+    }
+}
+
+#[test]
+fn falling(rt: HostRuntime) {
+    let mut log = [0u8; 120];
+    write_row(
+        &mut log[0..58],
+        3,
+        &Serial { value: 7 },
+        u64::MAX,
+        u64::MAX,
+        &Window::new(5, 9),
+    );
+    write_row(
+        &mut log[58..116],
+        2,
+        &Serial { value: 8 },
+        3,
+        0,
+        &Window::new(6, 9),
+    );
+    let mut reader = LogReader::<Serial>::new(&log);
+    assert!(rt;
+        matches!(
+            reader.step(),
+            Step::Row {
+                at: 0,
+                section: 3,
+                ..
+            }
+        )
+    );
+    assert!(rt; matches!(reader.step(), Step::Spoiled { at: 58 }));
+    assert!(rt; matches!(reader.step(), Step::Spoiled { at: 58 }));
+    log[67] = 3;
+    let mut reader = LogReader::<Serial>::new(&log);
+    assert!(rt;
+        matches!(
+            reader.step(),
+            Step::Row {
+                at: 0,
+                section: 3,
+                ..
+            }
+        )
+    );
+    assert!(rt;
+        matches!(
+            reader.step(),
+            Step::Row {
+                at: 58,
+                section: 3,
+                next_section: 3,
+                next_position: 0,
+                ..
+            }
+        )
+    );
+    assert!(rt; matches!(reader.step(), Step::Blank { at: 116 }));
+    assert!(rt; matches!(reader.step(), Step::Blank { at: 116 }));
+}
 
 #[test]
 fn records(rt: HostRuntime) {

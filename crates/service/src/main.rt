@@ -1,5 +1,7 @@
 // The service job: lays out a log of windows for some serials in two sections, reads it back, damages one byte of one
 // value, and reads again; then an entry of the table, whole and damaged.
+#![tactic(auto)]
+
 ghost use Rattle.std.specs.Prelude.{◌≡◌};
 ghost use Rattle.service.specs.Append.{append_after, append_answer};
 

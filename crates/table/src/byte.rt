@@ -1,11 +1,18 @@
 // A table in lent bytes, 29 to an entry. Each change is durable at once.
-ghost use Rattle.std.specs.Prelude.{◌≡◌, [], ◌∷◌, length, replicate, Ok};
+ghost use Rattle.std.specs.Prelude.{◌≡◌, ◌-◌, ◌≤◌, [], ◌∷◌, ◌++◌, length, take, drop, replicate, Ok};
 ghost use Rattle.table.specs.Lent.{IsByteGood, byte_means, byte_most, making_check};
 
 use crate::entry::Entry;
 use crate::fault::TableFault;
 use crate::store::Table;
-use codec::zero_part;
+
+// Zeroes the bytes from `from` to `to`.
+fn zero_part(bytes: &mut [u8], from: usize, to: usize)
+    requires { (from ≤ to) × (to ≤ length bytes.old) }
+    ensures { bytes.new ≡ take from bytes.old ++ (replicate (to - from) 0 ++ drop to bytes.old) }
+{
+    bytes[from..to].fill(0);
+}
 
 #[derive(Drop)]
 pub struct ByteTable<'a> {

@@ -1,5 +1,7 @@
 // The table of chain heads: entries and their bytes, the head of a pair and the slot to write, what a table is, and two
 // tables in lent memory.
+#![tactic(auto)]
+
 mod byte;
 mod entry;
 mod fault;

@@ -10,7 +10,7 @@ loop-byte-preserved c =
     let i = c.loop-byte.byte-index in
     let s = c.loop-byte.state in
     let more : register s (drop i bs) ≡ register (eight_bits (bit_xor s (get_or bs i 0))) (drop (i + 1) bs) = at_drop_more (register s) bs i 0 c.loop-byte-test.true in
-    ap (λ t. register t (drop (i + 1) bs)) c.update-byte-state.ensures ∙ sym more ∙ c.loop-byte.invariant
+    ap (λ t. register t (drop (i + 1) bs)) c.update_byte-state.ensures ∙ sym more ∙ c.loop-byte.invariant
 
 pub returns : goal.returns
 returns c = sym (at_drop_all (register c.loop-byte.state) c.args.bytes.now c.loop-byte.byte-index c.loop-byte-test.false) ∙ c.loop-byte.invariant

@@ -5,5 +5,5 @@ use Rattle.codec.proofs.bytes.put_u64.Goals as goal
 
 pub returns : goal.returns
 returns c =
-    let written : c.copy-from-slice.new.self ≡ be 8 c.args.n = search rules in
+    let written : c.copy_from_slice.new.self ≡ be 8 c.args.n = search rules in
     record { written = written; back = ap number written ∙ number-be 8 c.args.n (search rules) }

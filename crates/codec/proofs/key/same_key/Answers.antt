@@ -9,6 +9,6 @@ returns g c =
     let bytes = g.K.Key.bytes in
     let d = bytes_eq-Decides (bytes a) (bytes b) in
     record {
-      bytes = c.same-in.ensures;
-      key = (λ t. g.met.K.Key.same a b (d.0 (sym c.same-in.ensures ∙ t)), λ e. c.same-in.ensures ∙ d.1 (ap bytes e));
+      bytes = c.same_in.ensures;
+      key = (λ t. g.met.K.Key.same a b (d.0 (sym c.same_in.ensures ∙ t)), λ e. c.same_in.ensures ∙ d.1 (ap bytes e));
     }

@@ -1,6 +1,0 @@
-use Rattle.std.proofs.Common.{refl}
-use Rattle.log.proofs.ReadBack.{reads_back}
-use Rattle.log.proofs.reader.LogReader.new.Goals as goal
-
-pub returns : goal.returns
-returns g c = record { log = refl; at = refl; last = refl; rows = λ rows zeros h e. reads_back g.K.Key.width zeros c.args.log.now rows h e }

@@ -1,4 +1,0 @@
-pub mod Parts
-pub mod Directory
-pub mod Places
-pub mod Plans
