@@ -6,4 +6,4 @@ use Rattle.codec.proofs.fingerprint.FingerprintKey.decode.Goals as goal
 pub invariant_of-result : goal.invariant_of-result
 invariant_of-result c =
     let from = c.args.from.now in
-    ((search rules, ap all_bytes c.copy_from_slice.ensures.after ∙ all_under from (under_of from (λ i. (c.type_inv.from i).fits))), tt)
+    record { ok = (search rules, ap all_bytes c.copy_from_slice.ensures.after ∙ all_under from (under_of from (λ i. (c.type_inv.from i).fits))) }

@@ -7,7 +7,7 @@ pub invariant_of-result : goal.invariant_of-result
 invariant_of-result c =
     let from = c.args.bytes.now in
     let few : length from ≤ 512 = search rules in
-    (copied_keeps from c.copy_from_slice.new.self few c.copy_from_slice.ensures.after (under_of from (λ i. (c.type_inv.bytes i).fits)), tt)
+    record { ok = copied_keeps from c.copy_from_slice.new.self few c.copy_from_slice.ensures.after (under_of from (λ i. (c.type_inv.bytes i).fits)) }
 
 pub returns : goal.returns
 returns c =
