@@ -8,9 +8,9 @@ use crc32c::checksum;
 
 // Fills `out` with a value and its check. Reading it at any place gives the value.
 pub fn write_stored<V: Value>(out: &mut [u8], value: &V)
-    requires { length out.old ≡ length (encoding value.now) + 4 }
-    ensures written { out.new ≡ stored_of (encoding value.now) }
-    ensures back { (c : Cursor) → value_there decoding c (Some out.new) ≡ Ok value.now }
+    requires { length out.old ≡ length (V.encoding value.now) + 4 }
+    ensures written { out.new ≡ stored_of (V.encoding value.now) }
+    ensures back { (c : Cursor) → value_there V.decoding c (Some out.new) ≡ Ok value.now }
 {
     let size = value.encode_size();
     value.encode(&mut out[0..size]);
@@ -21,8 +21,8 @@ pub fn write_stored<V: Value>(out: &mut [u8], value: &V)
 // The value of stored bytes at a place: 16 where they are too few for a check, 17 where the check is wrong, 18 where they
 // are no value of the kind. A value that is read is stored as these bytes.
 pub fn read_stored<V: Value>(stored: &[u8], place: Cursor) -> Result<V, JournalFault>
-    ensures answer { result ≡ value_there decoding place (Some stored.now) }
-    ensures back { (v : V) → result ≡ Ok v → stored_of (encoding v) ≡ stored.now }
+    ensures answer { result ≡ value_there V.decoding place (Some stored.now) }
+    ensures back { (v : V) → result ≡ Ok v → stored_of (V.encoding v) ≡ stored.now }
 {
     let len = stored.len();
     if len < 4 {

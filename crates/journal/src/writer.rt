@@ -33,8 +33,8 @@ pub fn write_row<K: Key, V: Value>(
 
 // The mark, the section, the key and the next place.
 fn write_head<K: Key>(out: &mut [u8], section: u64, key: &K, next_section: u64, next_position: u64)
-    requires { length out.old ≡ 26 + width }
-    ensures { out.new ≡ head_bytes section (bytes key.now) next_section next_position }
+    requires { length out.old ≡ 26 + K.width }
+    ensures { out.new ≡ head_bytes section (K.bytes key.now) next_section next_position }
 {
     let wide = K::wide();
     out[0..2].copy_from_slice(&[0x46, 0x5a]);
@@ -46,8 +46,8 @@ fn write_head<K: Key>(out: &mut [u8], section: u64, key: &K, next_section: u64, 
 
 // The value with its length and its check.
 fn write_tail<V: Value>(out: &mut [u8], value: &V)
-    requires { length out.old ≡ 8 + length (encoding value.now) }
-    ensures { out.new ≡ tail_bytes (encoding value.now) }
+    requires { length out.old ≡ 8 + length (V.encoding value.now) }
+    ensures { out.new ≡ tail_bytes (V.encoding value.now) }
 {
     let size = value.encode_size();
     put_u32(&mut out[0..4], size as u32);

@@ -53,8 +53,8 @@ pub trait Table {
 
 // The two slots of a pair.
 pub fn read_table<T: Table>(table: &T, index: u32) -> Result<(Entry, Entry), TableFault>
-    requires { good table.now }
-    ensures { result ≡ pair_answer (means table.now) index }
+    requires { T.good table.now }
+    ensures { result ≡ pair_answer (T.means table.now) index }
 {
     let at = 2 * index as u64;
     let entry1 = table.read(at)?;

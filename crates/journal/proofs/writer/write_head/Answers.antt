@@ -15,9 +15,9 @@ returns g c =
     let p4 : List ℕ = p3 ++ be 8 c.args.next_section in
     let l3 : length p3 ≡ 10 + w = omega (arith, length-append p2 kb) in
     let l4 : length p4 ≡ 18 + w = omega (arith, length-append p3 (be 8 c.args.next_section)) in
-    let s1 = piece 0 2 2 [] out out _ p1 refl refl refl refl c.copy-from-slice.ensures.after in
-    let s2 = piece 2 8 10 p1 out _ _ (be 8 c.args.section) refl refl refl s1 c.put-u64.ensures.written in
+    let s1 = piece 0 2 2 [] out out _ p1 refl refl refl refl c.copy_from_slice.ensures.after in
+    let s2 = piece 2 8 10 p1 out _ _ (be 8 c.args.section) refl refl refl s1 c.put_u64.ensures.written in
     let s3 = piece 10 (10 + w - 10) (10 + w) p2 out _ _ kb refl (omega arith) (omega arith) s2 c.encode.ensures in
-    let s4 = piece (10 + w) (18 + w - (10 + w)) (18 + w) p3 out _ _ (be 8 c.args.next_section) l3 (omega arith) (omega arith) s3 c.put-u64-2.ensures.written in
-    let s5 = piece (18 + w) (26 + w - (18 + w)) (26 + w) p4 out _ _ (be 8 c.args.next_position) l4 (omega arith) (omega arith) s4 c.put-u64-3.ensures.written in
+    let s4 = piece (10 + w) (18 + w - (10 + w)) (18 + w) p3 out _ _ (be 8 c.args.next_section) l3 (omega arith) (omega arith) s3 c.put_u64-2.ensures.written in
+    let s5 = piece (18 + w) (26 + w - (18 + w)) (26 + w) p4 out _ _ (be 8 c.args.next_position) l4 (omega arith) (omega arith) s4 c.put_u64-3.ensures.written in
     s5 ∙ ended (26 + w) (p4 ++ be 8 c.args.next_position) out (omega (arith, c.requires, c.wide-wide.ensures))

@@ -16,5 +16,5 @@ unfolding entry_check
 returns c =
     c.finish.ensures
     ∙ ap (λ (x : ℕ). bit_xor x ones)
-    (all ones c.update-u8.result c.update-u64-state.result c.update-u64-state-2.result c.update-u64-state-3.result c.args.epoch c.args.section c.args.position c.args.added
-    c.update-u64-state.ensures c.update-u64-state-2.ensures c.update-u64-state-3.ensures c.update-u8.ensures)
+    (all ones c.update_u8.result c.update_u64-state.result c.update_u64-state-2.result c.update_u64-state-3.result c.args.epoch c.args.section c.args.position c.args.added
+    c.update_u64-state.ensures c.update_u64-state-2.ensures c.update_u64-state-3.ensures c.update_u8.ensures)

@@ -23,11 +23,11 @@ returns-in-Row g c =
       log = search rules;
     }
 
-pub returns-in-default : goal.returns-in-default
-returns-in-default g c =
+pub returns-in_default : goal.returns-in_default
+returns-in_default g c =
     let self = c.args.self.now in
     let rest = take_rest self.log.now self.at in
-    let still = stays g.K.Key.width self.last c.look-step.result c.in-default.not-Row in
+    let still = stays g.K.Key.width self.last c.look-step.result c.in_default.not-Row in
     record {
       shown = c.look-step.ensures.shown ∙ (λ i. look (c.wide-width.ensures i) self.last self.at (rest i));
       key = subst (λ (w : ℕ). KeyWide w (shown c.look-step.result)) c.wide-width.ensures c.look-step.ensures.key;
@@ -36,7 +36,7 @@ returns-in-default g c =
       log = search rules;
     }
 
-pub invariant-of-self : goal.invariant-of-self
-invariant-of-self g c =
+pub invariant_of-self : goal.invariant_of-self
+invariant_of-self g c =
     let self = c.args.self.now in
-    (omega (arith, c.in-Row.ensures.within, c.in-Row.ensures.stands, ap length (take_rest self.log.now self.at), length-drop self.at self.log.now), tt)
+    record { ok = omega (arith, c.in-Row.ensures.within, c.in-Row.ensures.stands, ap length (take_rest self.log.now self.at), length-drop self.at self.log.now) }

@@ -17,8 +17,8 @@ returns g c =
     let l3 : length p3 ≡ w + 16 = omega (arith, length-append p2 (be 8 r.next_position)) in
     let l4 : length p4 ≡ w + 24 = omega (arith, length-append p3 (be 8 r.value_offset)) in
     let s1 = piece 0 (w - 0) w [] out out _ p1 refl (omega arith) (omega arith) refl c.encode.ensures in
-    let s2 = piece w (w + 8 - w) (w + 8) p1 out _ _ (be 8 r.next_section) l1 (omega arith) (omega arith) s1 c.put-u64.ensures.written in
-    let s3 = piece (w + 8) (w + 16 - (w + 8)) (w + 16) p2 out _ _ (be 8 r.next_position) l2 (omega arith) (omega arith) s2 c.put-u64-2.ensures.written in
-    let s4 = piece (w + 16) (w + 24 - (w + 16)) (w + 24) p3 out _ _ (be 8 r.value_offset) l3 (omega arith) (omega arith) s3 c.put-u64-3.ensures.written in
-    let s5 = piece (w + 24) (w + 28 - (w + 24)) (w + 28) p4 out _ _ (be 4 r.value_size) l4 (omega arith) (omega arith) s4 c.put-u32.ensures.written in
+    let s2 = piece w (w + 8 - w) (w + 8) p1 out _ _ (be 8 r.next_section) l1 (omega arith) (omega arith) s1 c.put_u64.ensures.written in
+    let s3 = piece (w + 8) (w + 16 - (w + 8)) (w + 16) p2 out _ _ (be 8 r.next_position) l2 (omega arith) (omega arith) s2 c.put_u64-2.ensures.written in
+    let s4 = piece (w + 16) (w + 24 - (w + 16)) (w + 24) p3 out _ _ (be 8 r.value_offset) l3 (omega arith) (omega arith) s3 c.put_u64-3.ensures.written in
+    let s5 = piece (w + 24) (w + 28 - (w + 24)) (w + 28) p4 out _ _ (be 4 r.value_size) l4 (omega arith) (omega arith) s4 c.put_u32.ensures.written in
     s5 ∙ ended (w + 28) (p4 ++ be 4 r.value_size) out (omega (arith, c.requires, c.wide-wide.ensures))
