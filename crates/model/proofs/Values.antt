@@ -1,13 +1,10 @@
 -- A value that was stored is read again.
-use Rattle.std.proofs.Common.{◌≡◌, ℕ, zero, suc, ◌+◌, ◌-◌, ◌^◌, ◌<◌, true, false, ◌&&◌, eqb, ltb, List, [], ◌∷◌, length, take, drop, Some, Ok, sym, refl, ap, ◌∙◌, arith, length-append}
-use Rattle.std.specs.Int.Digits.{AllBelowBase}
-use Rattle.std.proofs.lemmas.List.{take_at, drop_at}
+use Rattle.std.proofs.Common.{◌≡◌, ℕ, zero, suc, ◌+◌, ◌<◌, true, false, ◌&&◌, eqb, ltb, List, [], ◌∷◌, length, take, Some, Ok, ap, ◌∙◌, arith}
 use Rattle.std.proofs.lemmas.Bool.{eq-eqb, ne_eqb, and_from, and_left, and_right, le-ltb, cond-true, cond-false}
-use Rattle.codec.specs.Bytes.{be, number}
 use Rattle.codec.specs.Kinds.{Kinds, Lawful}
 use Rattle.journal.specs.declared.fault.Cursor.{Cursor}
 use Rattle.journal.proofs.StoredBack.{length_stored, checked_stored}
-use Rattle.journal.specs.Rows.{Row, JournalMeaning, row_at, stored_bytes, stored_at, stored_of, encoding_of, check_of, value_check, value_answer, value_there, checked, decoded}
+use Rattle.journal.specs.Rows.{Row, JournalMeaning, row_at, stored_bytes, stored_at, stored_of, value_answer, value_there, checked}
 
 not_here : (from o a b more : ℕ) → 0 < b → o ≡ from + (a + more) → (eqb from o && eqb a b) ≡ false
 not_here from o zero b more l e = and_right (eqb from o) _ (ne_eqb 0 b (λ z. omega arith))

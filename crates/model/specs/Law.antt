@@ -1,5 +1,5 @@
 -- The law of the trails.
-use Rattle.std.specs.Prelude.{◌≡◌, ℕ, ◌+◌, ◌-◌, ◌*◌, ◌<◌, ◌≤◌, Bool, true, false, cond, ◌⊎◌, List, [], ◌∷◌, Some, None, Ok, Err, Option}
+use Rattle.std.specs.Prelude.{◌≡◌, ℕ, ◌+◌, ◌*◌, ◌<◌, ◌≤◌, Bool, true, false, cond, ◌⊎◌, List, [], ◌∷◌, Some, None, Ok, Err, Option}
 use Rattle.std.specs.Str.{bytes_eq}
 use Rattle.codec.specs.Kinds.{Kinds, record_bytes}
 use Rattle.table.specs.declared.pair.Head.{Head}

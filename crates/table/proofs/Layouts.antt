@@ -1,6 +1,6 @@
 -- The 29 bytes of an entry, there and back.
-use Rattle.std.proofs.Common.{◌≡◌, ℕ, ◌+◌, ◌^◌, ◌<◌, List, ◌++◌, length, take, drop, refl, ◌∙◌, arith, length-drop, take-append-drop}
-use Rattle.std.proofs.lemmas.List.{drop-drop, take_all}
+use Rattle.std.proofs.Common.{◌≡◌, ℕ, ◌^◌, ◌<◌, List, ◌++◌, length, take, drop, refl, ◌∙◌, arith}
+use Rattle.std.proofs.lemmas.List.{take_all}
 use Rattle.codec.proofs.Pieces.{joined_on}
 use Rattle.codec.specs.Rounds.{number-be}
 use Rattle.table.specs.declared.entry.Entry.{Entry}

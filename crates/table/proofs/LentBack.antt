@@ -1,5 +1,5 @@
 -- What lent bytes hold once a table over them is let go.
-use Rattle.std.proofs.Common.{◌≡◌, ℕ, List, length, set, sym, ap, ◌∙◌, arith}
+use Rattle.std.proofs.Common.{◌≡◌, ℕ, List, length, set, sym, ap, ◌∙◌}
 use Rattle.std.proofs.lemmas.List.FromFn.{length-map-range_with_len}
 use Rattle.table.specs.declared.entry.Entry.{Entry}
 use Rattle.table.specs.Store.{TableMeaning, write_after}

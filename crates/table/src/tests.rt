@@ -36,8 +36,8 @@ fn damaged(rt: HostRuntime) {
 
 // Counts at their limits.
 fn limits<T: Table>(rt: &impl Abort, table: &mut T)
-    requires { good table.old }
-    ensures { good table.new }
+    requires { T.good table.old }
+    ensures { T.good table.new }
 {
     let most = table.most();
     assert_eq!(rt; table.resize(u64::MAX), Err(TableFault::TooMany));
@@ -55,8 +55,8 @@ fn limits<T: Table>(rt: &impl Abort, table: &mut T)
 
 // What is written is read, a resize drops it, and entries that are added are empty.
 fn script<T: Table>(rt: &impl Abort, table: &mut T)
-    requires { good table.old }
-    ensures { good table.new }
+    requires { T.good table.old }
+    ensures { T.good table.new }
 {
     let one = Entry::new(1, 0, 7, 1);
     let two = Entry::new(2, 0, 8, 2);

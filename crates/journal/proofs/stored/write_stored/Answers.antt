@@ -2,7 +2,7 @@ use Rattle.std.proofs.Common.{◌≡◌, ℕ, ◌+◌, ◌-◌, List, [], ◌++�
 use Rattle.crc32c.specs.Crc.{crc}
 use Rattle.codec.specs.Bytes.{be}
 use Rattle.codec.proofs.Pieces.{piece, middle, whole, ended}
-use Rattle.journal.specs.Rows.{stored_of, value_check, value_there}
+use Rattle.journal.specs.Rows.{value_check, value_there}
 use Rattle.journal.proofs.StoredBack.{there_stored}
 use Rattle.journal.proofs.stored.write_stored.Goals as goal
 
