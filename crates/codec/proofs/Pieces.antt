@@ -1,6 +1,7 @@
 -- A slice that is written piece by piece, from its front.
-use Rattle.std.proofs.Common.{◌≡◌, ℕ, ◌+◌, ◌≤◌, List, [], ◌∷◌, ◌++◌, length, take, drop, sym, refl, ap, ◌∙◌, append_assoc, append-nil, arith, length-append, take-add}
+use Rattle.std.proofs.Common.{◌≡◌, ℕ, ◌+◌, ◌-◌, ◌≤◌, List, [], ◌∷◌, ◌++◌, length, take, drop, sym, refl, ap, ◌∙◌, append_assoc, append-nil, arith, length-append, take-add}
 use borrow.Rule.Slice.PartMut.{put_mid}
+use Rattle.std.specs.List.{between}
 use Rattle.std.proofs.lemmas.List.{take_at, drop_at, drop-drop, drop_all}
 
 -- p is written, and z goes behind it
@@ -27,6 +28,12 @@ whole y z old l e =
 
 pub ended : (e : ℕ) (p out : List ℕ) → length out ≤ e → p ++ drop e out ≡ p
 ended e p out h = ap (λ r. p ++ r) (drop_all e out h) ∙ append-nil p
+
+-- what stands behind `before` is read again
+pub field : (i j : ℕ) (bs before part rest : List ℕ) → bs ≡ before ++ (part ++ rest) → length before ≡ i → i + length part ≡ j → between i j bs ≡ part
+field i j bs before part rest e l m =
+    let n : length part ≡ j - i = omega arith in
+    ap (between i j) e ∙ ap (take (j - i)) (drop_at before (part ++ rest) i l) ∙ take_at part rest (j - i) n
 
 -- two parts that stand one behind the other are read as one
 pub joined_on : (n k e : ℕ) (bs p q : List ℕ) → n + k ≡ e → p ≡ take n bs → q ≡ take k (drop n bs) → p ++ q ≡ take e bs

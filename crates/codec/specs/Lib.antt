@@ -9,3 +9,4 @@ pub mod Rounds
 pub mod SealedOf
 pub mod WindowOf
 pub mod Halves
+pub mod Keys

@@ -1,5 +1,5 @@
-// Big-endian numbers of 1, 4 and 8 bytes. Each is the same two definitions at its width.
-ghost use Rattle.std.specs.Prelude.{◌≡◌, length};
+// Big-endian numbers of 1, 4 and 8 bytes, each the same two definitions at its width; and zeroing.
+ghost use Rattle.std.specs.Prelude.{◌≡◌, ◌-◌, ◌≤◌, ◌++◌, length, take, drop, replicate};
 ghost use Rattle.codec.specs.Bytes.{be, number};
 
 pub fn put_u8(out: &mut [u8], n: u8)
@@ -50,4 +50,12 @@ pub fn take_u64(from: &[u8]) -> u64
     u64::from_be_bytes([
         from[0], from[1], from[2], from[3], from[4], from[5], from[6], from[7],
     ])
+}
+
+// Zeroes the bytes from `from` to `to`.
+pub fn zero_part(bytes: &mut [u8], from: usize, to: usize)
+    requires { (from ≤ to) × (to ≤ length bytes.old) }
+    ensures { bytes.new ≡ take from bytes.old ++ (replicate (to - from) 0 ++ drop to bytes.old) }
+{
+    bytes[from..to].fill(0);
 }

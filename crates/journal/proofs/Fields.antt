@@ -1,19 +1,13 @@
 -- The parts of a row that stands in front of `rest`: where each lies, and what a reader makes of them.
-use Rattle.std.proofs.Common.{◌≡◌, ℕ, ◌+◌, ◌-◌, ◌≤◌, true, false, ltb, List, ◌∷◌, ◌++◌, length, take, sym, refl, ap, ◌∙◌, append_assoc, arith, length-append}
+use Rattle.std.proofs.Common.{◌≡◌, ℕ, ◌+◌, ◌≤◌, true, false, ltb, List, ◌∷◌, ◌++◌, length, sym, refl, ap, ◌∙◌, append_assoc, arith, length-append}
 use Rattle.std.specs.List.{between}
-use Rattle.std.proofs.lemmas.List.{take_at, drop_at}
 use Rattle.std.proofs.lemmas.Bool.{and_from, or_from, le-leb, le-ltb, eq-eqb, cond-true, cond-false}
 use Rattle.crc32c.specs.Crc.{crc}
 use Rattle.crc32c.proofs.Fits.{crc_fits}
 use Rattle.codec.specs.Bytes.{be, number}
 use Rattle.codec.specs.Rounds.{number-be}
+use Rattle.codec.proofs.Pieces.{field}
 use Rattle.journal.specs.Log.{LogRow, Writable, row, row_bytes, row_len, row_of, log_row, section_of, value_length, value_of, check_of, is_blank, is_marked, is_row, look}
-
--- what stands behind `before` is read again
-field : (i j : ℕ) (bs before part rest : List ℕ) → bs ≡ before ++ (part ++ rest) → length before ≡ i → i + length part ≡ j → between i j bs ≡ part
-field i j bs before part rest e l m =
-    let n : length part ≡ j - i = omega arith in
-    ap (between i j) e ∙ ap (take (j - i)) (drop_at before (part ++ rest) i l) ∙ take_at part rest (j - i) n
 
 regroup : (a k n p l v c rest : List ℕ) → ((((a ++ k) ++ n) ++ p) ++ ((l ++ v) ++ c)) ++ rest ≡ a ++ (k ++ (n ++ (p ++ (l ++ (v ++ (c ++ rest))))))
 regroup a k n p l v c rest = simp append_assoc

@@ -11,7 +11,7 @@ zeros_blank zero = refl
 zeros_blank (suc zero) = refl
 zeros_blank (suc (suc n)) = or_right (ltb (length (replicate {A = ℕ} (suc (suc n)) 0)) 2) _ refl
 
-look_zeros : (w last at n : ℕ) → look w last at (replicate n 0) ≡ blank at
+pub look_zeros : (w last at n : ℕ) → look w last at (replicate n 0) ≡ blank at
 look_zeros w last at n = cond-true (is_blank (replicate n 0)) _ _ (zeros_blank n)
 
 -- the same behind what was read already

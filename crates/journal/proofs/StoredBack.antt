@@ -27,16 +27,23 @@ check_back enc u =
     let e : length (stored_of enc) - 4 ≡ length enc = omega arith in
     ap (λ (n : ℕ). number (drop n (stored_of enc))) e ∙ ap number (drop_at enc (be 4 (value_check enc)) (length enc) refl) ∙ number-be 4 (value_check enc) (check_fits enc u)
 
-module _ {V : Type 0} (decode : List ℕ → Option V) (enc : List ℕ) (x : V) (u : AllBelowBase 256 enc) (d : decode enc ≡ Some x) where
-  pub checked_stored : (c : Cursor) → checked decode c (stored_of enc) ≡ Ok x
-  checked_stored c =
+-- a stored value has the right check, so reading it is decoding it
+module _ {V : Type 0} (decode : List ℕ → Option V) (enc : List ℕ) (u : AllBelowBase 256 enc) where
+  checked_decoded : (c : Cursor) → checked decode c (stored_of enc) ≡ decoded decode c (decode enc)
+  checked_decoded c =
       let e = encoding_back enc in
       cond-true (eqb (value_check (encoding_of (stored_of enc))) (check_of (stored_of enc))) _ _ (eq-eqb _ _ (ap value_check e ∙ sym (check_back enc u)))
       ∙ ap (λ (bs : List ℕ). decoded decode c (decode bs)) e
-      ∙ ap (decoded decode c) d
+
+  pub there_decoded : (c : Cursor) → value_there decode c (Some (stored_of enc)) ≡ decoded decode c (decode enc)
+  there_decoded c = cond-false (ltb (length (stored_of enc)) 4) _ _ (le-ltb (length (stored_of enc)) 4 (omega (arith, length_stored enc))) ∙ checked_decoded c
+
+module _ {V : Type 0} (decode : List ℕ → Option V) (enc : List ℕ) (x : V) (u : AllBelowBase 256 enc) (d : decode enc ≡ Some x) where
+  pub checked_stored : (c : Cursor) → checked decode c (stored_of enc) ≡ Ok x
+  checked_stored c = checked_decoded decode enc u c ∙ ap (decoded decode c) d
 
   pub there_stored : (c : Cursor) → value_there decode c (Some (stored_of enc)) ≡ Ok x
-  there_stored c = cond-false (ltb (length (stored_of enc)) 4) _ _ (le-ltb (length (stored_of enc)) 4 (omega (arith, length_stored enc))) ∙ checked_stored c
+  there_stored c = there_decoded decode enc u c ∙ ap (decoded decode c) d
 
 -- ---- reading: the check of the bytes in front, and the one behind them
 

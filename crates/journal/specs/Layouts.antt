@@ -1,5 +1,6 @@
 -- The bytes of a record and of a cursor.
-use Rattle.std.specs.Prelude.{ℕ, ◌^◌, ◌<◌, List, ◌++◌, take, drop}
+use Rattle.std.specs.Prelude.{ℕ, ◌+◌, ◌^◌, ◌<◌, List, ◌++◌, take, drop}
+use Rattle.std.specs.List.{between}
 use Rattle.codec.specs.Bytes.{be, number}
 use Rattle.journal.specs.declared.fault.Cursor.{Cursor}
 use Rattle.journal.specs.declared.record.Record.{Record}
@@ -7,6 +8,15 @@ use Rattle.journal.specs.declared.record.Record.{Record}
 -- key, next section 8, next position 8, value offset 8, value size 4; the key by its bytes
 abbrev pub record_encoding : {K : Type 0} → (K → List ℕ) → Record K → List ℕ
 record_encoding bytes r = (((bytes r.key ++ be 8 r.next_section) ++ be 8 r.next_position) ++ be 8 r.value_offset) ++ be 4 r.value_size
+
+-- a record of its parts
+abbrev pub record_with : {K : Type 0} → K → ℕ → ℕ → ℕ → ℕ → Record K
+record_with k ns np offset size = record { key = k; next_section = ns; next_position = np; value_offset = offset; value_size = size }
+
+-- the record that bytes of its length write, where keys have a width
+abbrev pub record_read : {K : Type 0} → (List ℕ → K) → ℕ → List ℕ → Record K
+record_read decoding w bs =
+    record_with (decoding (take w bs)) (number (between w (w + 8) bs)) (number (between (w + 8) (w + 16) bs)) (number (between (w + 16) (w + 24) bs)) (number (between (w + 24) (w + 28) bs))
 
 -- the numbers of a record fit their bytes
 abbrev pub RecordFits : {K : Type 0} → Record K → Type 0

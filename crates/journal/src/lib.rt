@@ -1,19 +1,23 @@
-// The journal: its log, row by row, and what a journal means.
+// What a journal is and means; its records, stored values and cursors; and its log, row by row.
 #![tactic(auto)]
 
+mod above;
 mod cursor;
 mod fault;
 mod reader;
 mod record;
 mod step;
+mod store;
 mod stored;
 #[cfg(test)]
 mod tests;
 mod writer;
 
+pub use above::{append_and_read, restore_whole, row_count};
 pub use fault::{Cursor, JournalFault};
 pub use reader::LogReader;
-pub use record::Record;
+pub use record::{Record, write_record};
 pub use step::Step;
+pub use store::Journal;
 pub use stored::{read_stored, write_stored};
 pub use writer::{row_size, write_row};

@@ -7,6 +7,7 @@ use Rattle.table.specs.declared.pair.Head.{Head}
 use Rattle.table.specs.declared.pair.Head.TheVariants.{Vacant as none, Latest as latest, Equal as equal}
 use Rattle.journal.specs.declared.fault.Cursor.{Cursor}
 use Rattle.journal.specs.Rows.{Row, JournalMeaning, row_at, stored_bytes, stored_of, appended, value_answer}
+use Rattle.journal.proofs.RowsBack.{row_last, appended_here}
 use Rattle.model.specs.declared.Fault.{Fault}
 use Rattle.model.specs.declared.Fault.TheVariants.{NotEarlier}
 use Rattle.model.specs.Common.{last, earlier}
@@ -28,10 +29,6 @@ module _ {K : Type 0} where
   row_left (x ∷ xs) ys zero r q = q
   row_left (x ∷ xs) ys (suc p) r q = row_left xs ys p r q
 
-  pub row_last : (xs : List (Row K)) (r : Row K) → row_at (xs ++ (r ∷ [])) (length xs) ≡ Some r
-  row_last [] r = refl
-  row_last (x ∷ xs) r = row_last xs r
-
   -- every row of the first is a row of the second
   abbrev pub Extends : (ℕ → List (Row K)) → (ℕ → List (Row K)) → Type 0
   Extends rows more = (s p : ℕ) (r : Row K) → row_at (rows s) p ≡ Some r → row_at (more s) p ≡ Some r
@@ -45,9 +42,6 @@ module _ {K : Type 0} where
       by : (b : Bool) → row_at (cond b (rows i ++ (r ∷ [])) (rows i)) p ≡ Some x
       by true = row_left (rows i) (r ∷ []) p x q
       by false = q
-
-  pub appended_here : (s : ℕ) (r : Row K) (rows : ℕ → List (Row K)) → appended s r rows s ≡ rows s ++ (r ∷ [])
-  appended_here s r rows = cond-true (eqb s s) _ _ (eq-eqb s s refl)
 
   pub appended_there : (s i : ℕ) (r : Row K) (rows : ℕ → List (Row K)) → (i ≡ s → ⊥) → appended s r rows i ≡ rows i
   appended_there s i r rows n = cond-false (eqb i s) _ _ (ne_eqb i s n)

@@ -16,6 +16,7 @@ use Rattle.model.specs.declared.Fault.{Fault}
 use Rattle.model.specs.declared.Fault.TheVariants.{LastSection}
 use Rattle.journal.specs.declared.fault.JournalFault.{JournalFault}
 use Rattle.journal.specs.declared.fault.JournalFault.TheVariants.{Below, Full}
+use Rattle.journal.proofs.RowsBack.{appended_here}
 use Rattle.model.specs.Common.{refuse, ◌then◌, of_journal, last, hash, table_index, head_at, past_end, pair_past, pair_equal}
 use Rattle.model.specs.Init.{recovered}
 use Rattle.model.specs.Put.{above, place_section, place_position, extended, is_full, put_section, put_index, put_slot, put_head, put_added, mirrors, put_image, put_entry, put_fault, after_put, put_size}
@@ -23,7 +24,7 @@ use Rattle.model.specs.Law.{MetFrom, ledger_trail}
 use Rattle.table.proofs.Wholes.{entry_whole}
 use Rattle.model.proofs.Choice.{Pair, Written, write_chosen, with_0, with_1, recovered_later, chosen_loose}
 use Rattle.model.proofs.Replay.{changed_all}
-use Rattle.model.proofs.Chains.{met_put, row_of, met_from_more, extends_append, appended_here, appended_there}
+use Rattle.model.proofs.Chains.{met_put, row_of, met_from_more, extends_append, appended_there}
 use Rattle.model.proofs.Moves.{PairWritten, pair_written, slot_two}
 use Rattle.model.proofs.Safe.{now_fits, AllHarmless, Harmless}
 use Rattle.model.proofs.Chunk.{Sound, Images, past, harmless_slot}

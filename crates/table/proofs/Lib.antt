@@ -1,7 +1,6 @@
 pub mod Wholes
 pub mod Ways
 pub mod Layouts
-pub mod Filled
 pub mod InBytes
 pub mod InTables
 pub mod Spared

@@ -1,5 +1,5 @@
 use Rattle.std.proofs.Common.{arith}
-use Rattle.table.proofs.Filled.{filled_part}
+use Rattle.codec.proofs.Filled.{filled_part}
 use Rattle.table.proofs.byte.zero_part.Goals as goal
 
 pub returns : goal.returns

@@ -1,6 +1,6 @@
 use Rattle.std.proofs.Common.{arith}
 use Rattle.table.specs.Entries.{empty}
-use Rattle.table.proofs.Filled.{filled_part}
+use Rattle.codec.proofs.Filled.{filled_part}
 use Rattle.table.proofs.staged.empty_part.Goals as goal
 
 pub returns : goal.returns

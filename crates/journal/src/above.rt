@@ -1,0 +1,69 @@
+// What holds above every journal: each function asks only what the trait promises.
+ghost use Rattle.std.specs.Prelude.{◌≡◌, ℕ, ◌+◌, ◌*◌, ◌≤◌, length, is_ok, Ok, nat_lt};
+ghost use Rattle.journal.specs.Above.{append_and_read_lem};
+ghost use Rattle.journal.specs.Answers.{append_after, get_answer, size_answer};
+ghost use Rattle.journal.specs.Rows.{apply, restore};
+
+use crate::fault::{Cursor, JournalFault};
+use crate::record::Record;
+use crate::store::Journal;
+use codec::{Key, Value};
+
+// An append, then get and value at the place that it answered: they give back the key, the next place and the value.
+pub fn append_and_read<K: Key, V: Value, J: Journal<K, V>>(
+    journal: &mut J,
+    section: u64,
+    key: &K,
+    next_section: u64,
+    next_position: u64,
+    value: &V,
+) -> Result<(Record<K>, V), JournalFault>
+    requires { J.good journal.old }
+    ensures answer { result ≡ append_and_read_lem (K.Key.width + 28) (J.means journal.old) (J.space journal.old section (length (V.Value.encoding value.now))) section key.now next_section next_position (V.Value.encoding value.now) value.now }
+    ensures after { J.means journal.new ≡ append_after (K.Key.width + 28) (J.means journal.old) (J.space journal.old section (length (V.Value.encoding value.now))) section key.now next_section next_position (V.Value.encoding value.now) }
+    ensures good { J.good journal.new }
+    ensures same { J.lent journal.new ≡ J.lent journal.old }
+{
+    let (position, offset, size) = journal.append(
+        section,
+        key,
+        next_section,
+        next_position,
+        value,
+    )?;
+    let record = journal.get(section, position).unwrap();
+    let read = journal
+        .value(Cursor {
+            section,
+            offset,
+            size,
+        })
+        .unwrap();
+    Ok((record, read))
+}
+
+// A restore of a section at its own size: the section and the earlier ones stay as they are.
+pub fn restore_whole<K: Key, V: Value, J: Journal<K, V>>(
+    journal: &mut J,
+    section: u64,
+) -> Result<(), JournalFault>
+    requires { J.good journal.old }
+    ensures answer { result ≡ Ok tt }
+    ensures after { J.means journal.new ≡ apply (K.Key.width + 28) (J.means journal.old) (restore section (size_answer (K.Key.width + 28) (J.means journal.old) section)) }
+    ensures kept { (i : ℕ) → i ≤ section → (J.means journal.new).rows i ≡ (J.means journal.old).rows i }
+    ensures good { J.good journal.new }
+    ensures same { J.lent journal.new ≡ J.lent journal.old }
+{
+    let bytes = journal.size(section);
+    journal.restore(section, bytes)
+}
+
+// The rows of a section: those whose record bytes `size` counts, and those that `get` reaches.
+pub fn row_count<K: Key, V: Value, J: Journal<K, V>>(journal: &J, section: u64) -> u64
+    requires { J.good journal.now }
+    ensures rows { result ≡ length ((J.means journal.now).rows section) }
+    ensures counted { result * (K.Key.width + 28) ≡ size_answer (K.Key.width + 28) (J.means journal.now) section }
+    ensures reached { (p : ℕ) → is_ok (get_answer (J.means journal.now) section p) ≡ nat_lt p result }
+{
+    journal.size(section) / (K::wide() as u64 + 28)
+}

@@ -1,0 +1,10 @@
+// A journal in one run of lent bytes: the rows of a log, one behind the other, and zeros behind them.
+#![tactic(auto)]
+
+mod place;
+mod store;
+#[cfg(test)]
+mod tests;
+mod walk;
+
+pub use store::LogJournal;

@@ -1,0 +1,168 @@
+// A journal in lent bytes: the log's rows, and zeros behind them. Each change is durable at once.
+ghost use Rattle.std.specs.Prelude.{◌≡◌, ◌+◌, ◌-◌, ◌≤◌, [], ◌∷◌, ◌++◌, length, take, replicate};
+ghost use Rattle.journal.specs.Answers.{answered, append_after, append_answer, restore_after};
+ghost use Rattle.journal.specs.Rows.{apply, clear, restore_fault};
+ghost use Rattle.journal.specs.Log.{row_len};
+ghost use Rattle.log_journal.specs.Kept.{IsLogGood, either, log_end, log_means, log_space, opened, rows_in};
+
+use crate::place::{place, restored_end, row_fits};
+use crate::walk::{end, highest, record_at, tally_of, value_at};
+use codec::{DecodedKey, Key, Value, zero_part};
+use journal::{Cursor, Journal, JournalFault, Record, row_size, write_row};
+use std::marker::PhantomData;
+
+// Writes a row behind the rows, which take `used` bytes, where it has a place.
+fn append_row<K: DecodedKey, V: Value>(
+    bytes: &mut [u8],
+    used: usize,
+    section: u64,
+    key: &K,
+    next_section: u64,
+    next_position: u64,
+    value: &V,
+) -> Result<(u64, u64, u32), JournalFault>
+    requires { IsLogGood K.Key.width bytes.old used }
+    ensures answer { result ≡ append_answer (K.Key.width + 28) (log_means K.DecodedKey.decoding K.Key.width bytes.old) (log_space used K.Key.width bytes.old section (length (V.Value.encoding value.now))) section (V.Value.encoding value.now) }
+    ensures after { log_means K.DecodedKey.decoding K.Key.width bytes.new ≡ append_after (K.Key.width + 28) (log_means K.DecodedKey.decoding K.Key.width bytes.old) (log_space used K.Key.width bytes.old section (length (V.Value.encoding value.now))) section key.now next_section next_position (V.Value.encoding value.now) }
+    ensures good { IsLogGood K.Key.width bytes.new (either result used (used + row_len K.Key.width (length (V.Value.encoding value.now)))) }
+{
+    let answer = place::<K, V>(bytes, used, section, value)?;
+    let end = used + row_size::<K, V>(value);
+    write_row(
+        &mut bytes[used..end],
+        section,
+        key,
+        next_section,
+        next_position,
+        value,
+    );
+    Ok(answer)
+}
+
+// Drops the rows that a restore does not keep, and answers where those that it keeps end.
+fn restore_rows<K: DecodedKey>(
+    bytes: &mut [u8],
+    used: usize,
+    section: u64,
+    size: u64,
+) -> Result<usize, JournalFault>
+    requires { IsLogGood K.Key.width bytes.old used }
+    ensures answer { result ≡ answered (restore_fault (K.Key.width + 28) (log_means K.DecodedKey.decoding K.Key.width bytes.old) section size) (log_end K.Key.width bytes.new) }
+    ensures after { log_means K.DecodedKey.decoding K.Key.width bytes.new ≡ restore_after (K.Key.width + 28) (log_means K.DecodedKey.decoding K.Key.width bytes.old) section size }
+    ensures good { IsLogGood K.Key.width bytes.new (either result used (log_end K.Key.width bytes.new)) }
+{
+    let end = restored_end::<K>(bytes, section, size)?;
+    zero_part(bytes, end, used);
+    Ok(end)
+}
+
+// Drops all rows.
+fn clear_rows<K: DecodedKey>(bytes: &mut [u8], used: usize)
+    requires { IsLogGood K.Key.width bytes.old used }
+    ensures after { log_means K.DecodedKey.decoding K.Key.width bytes.new ≡ apply (K.Key.width + 28) (log_means K.DecodedKey.decoding K.Key.width bytes.old) clear }
+    ensures good { IsLogGood K.Key.width bytes.new 0 }
+{
+    zero_part(bytes, 0, used);
+}
+
+// Its rows take the first `used` bytes.
+#[derive(Drop)]
+pub struct LogJournal<'a, K> {
+    bytes: &'a mut [u8],
+    used: usize,
+    kind: PhantomData<K>,
+}
+
+impl<'a, K: Key> LogJournal<'a, K> {
+    // Keeps the good rows at the front, and zeroes what stands behind them.
+    pub fn open(bytes: &'a mut [u8]) -> LogJournal<'a, K>
+        ensures same { result.bytes.ghost_name ≡ bytes.entry.ghost_name }
+        ensures bytes { result.bytes.now ≡ opened K.Key.width bytes.old }
+        ensures rows { rows_in K.Key.width result.bytes.now ≡ rows_in K.Key.width bytes.old }
+        ensures used { result.used ≡ log_end K.Key.width bytes.old }
+        ensures good { IsLogGood K.Key.width result.bytes.now result.used }
+    {
+        let used = end::<K>(bytes);
+        let len = bytes.len();
+        zero_part(bytes, used, len);
+        LogJournal {
+            bytes,
+            used,
+            kind: PhantomData,
+        }
+    }
+}
+
+impl<'a, K: DecodedKey, V: Value> Journal<K, V> for LogJournal<'a, K> {
+    ghost means = { λ j. log_means K.DecodedKey.decoding K.Key.width j.bytes.now };
+
+    ghost good = { λ j. IsLogGood K.Key.width j.bytes.now j.used };
+
+    ghost space = { λ j section n. log_space j.used K.Key.width j.bytes.now section n };
+
+    ghost lent = { λ j. j.bytes.ghost_name ∷ [] };
+
+    fn fits(&self, section: u64, value: &V) -> bool {
+        row_fits::<K, V>(self.bytes, self.used, section, value)
+    }
+
+    fn append(
+        &mut self,
+        section: u64,
+        key: &K,
+        next_section: u64,
+        next_position: u64,
+        value: &V,
+    ) -> Result<(u64, u64, u32), JournalFault> {
+        let used = self.used;
+        let answer = append_row(
+            self.bytes,
+            used,
+            section,
+            key,
+            next_section,
+            next_position,
+            value,
+        )?;
+        self.used = used + row_size::<K, V>(value);
+        Ok(answer)
+    }
+
+    fn get(&self, section: u64, position: u64) -> Result<Record<K>, JournalFault> {
+        match record_at::<K>(self.bytes, section, position) {
+            Some(record) => Ok(record),
+            None => Err(JournalFault::NoRow(section, position)),
+        }
+    }
+
+    fn value(&self, cursor: Cursor) -> Result<V, JournalFault> {
+        value_at::<K, V>(self.bytes, cursor)
+    }
+
+    fn size(&self, section: u64) -> u64 {
+        tally_of::<K>(self.bytes, section).rows * (K::wide() as u64 + 28)
+    }
+
+    fn value_end(&self, section: u64) -> u64 {
+        tally_of::<K>(self.bytes, section).bytes
+    }
+
+    fn highest(&self) -> Option<u64> {
+        highest::<K>(self.bytes)
+    }
+
+    fn sync(&mut self, first: u64, last: u64) {}
+
+    fn restore(&mut self, section: u64, bytes: u64) -> Result<(), JournalFault> {
+        let used = self.used;
+        let end = restore_rows::<K>(self.bytes, used, section, bytes)?;
+        self.used = end;
+        Ok(())
+    }
+
+    fn clear(&mut self) {
+        let used = self.used;
+        clear_rows::<K>(self.bytes, used);
+        self.used = 0;
+    }
+}

@@ -1,0 +1,239 @@
+-- What an append and a restore make of the sections, and that the memory then holds those.
+use Rattle.std.proofs.Common.{◌≡◌, ℕ, zero, suc, ◌+◌, ◌-◌, ◌*◌, ◌^◌, ◌<◌, ◌≤◌, Bool, cond, ◌&&◌, eqb, ltb, List, [], ◌∷◌, ◌++◌, length, take, drop, set, sym, refl, ap, ◌∙◌, subst, ⊎_elim, append_assoc, append-nil, zero-add, arith, length-append, length-set, take-append-drop, length-take}
+use borrow.Rule.Slice.PartMut.{put_mid}
+use Rattle.std.proofs.lemmas.List.{drop_at, take_more_set, take-take}
+use Rattle.std.proofs.lemmas.Bool.{lt-ltb, le-ltb, le-leb, lt-leb, eq-eqb, and_from, and_right, cond-true, cond-false, cases_lt}
+use Rattle.codec.proofs.Pieces.{piece}
+use Rattle.journal.specs.Answers.{record_of}
+use Rattle.journal.specs.Flat.{Ordered, cut}
+use Rattle.journal.specs.Layouts.{record_encoding}
+use Rattle.journal.specs.Rows.{Row, stored_bytes}
+use Rattle.journal.proofs.ReadRecord.{length_record}
+use Rattle.split.specs.declared.section.Section.{Section}
+use Rattle.split.specs.Directory.{before, entry, numbers}
+use Rattle.split.specs.Parts.{Part, Proper, RowFits, RowsFit, Laid, part, part_of, labelled, flat, label, rows_at, under, over, row_total, byte_total, directory_of, records_from, records_of, stored_of_rows, values_of}
+use Rattle.split.proofs.Lengths.{length_records, length_values, records_append, records_from_append, values_append, stored_rows_append, stored_bytes_append, flat_parts, flat_part, labelled_append, directory_append}
+use Rattle.split.proofs.Around.{apart, under_directory, under_proper}
+use Rattle.split.proofs.Standing.{fit_at, records_around, records_part, values_around, values_part}
+
+front_kept : (n : ℕ) (front xs x : List ℕ) → length front ≡ n → xs ≡ front ++ x → xs ≡ front ++ drop n xs
+front_kept n front xs x l e = e ∙ ap (λ k. front ++ k) (sym (ap (drop n) e ∙ drop_at front x n l))
+
+-- ---- rows in order
+
+module _ {K : Type 0} where
+  ordered_weaken : (a b : ℕ) (xs : List (ℕ × Row K)) → a ≤ b → Ordered label b xs → Ordered label a xs
+  ordered_weaken a b [] l o = tt
+  ordered_weaken a b (x ∷ xs) l o = (omega (arith, o.0), o.1)
+
+  ordered_labelled : (low s : ℕ) (rows : List (Row K)) (xs : List (ℕ × Row K)) → low ≤ s → Ordered label s xs → Ordered label low (labelled s rows ++ xs)
+  ordered_labelled low s [] xs l o = ordered_weaken low s xs l o
+  ordered_labelled low s (r ∷ rs) xs l o = (l, ordered_labelled s s rs xs (omega arith) o)
+
+  pub ordered_flat : (low : ℕ) (ps : List (Part K)) → Proper low ps → Ordered label low (flat ps)
+  ordered_flat low [] h = tt
+  ordered_flat low (p ∷ ps) h =
+      ordered_labelled low p.number p.rows (flat ps) h.0 (ordered_weaken p.number (suc p.number) (flat ps) (omega arith) (ordered_flat (suc p.number) ps h.2))
+
+  flat_apart : (s low : ℕ) (ps : List (Part K)) → Proper low ps → flat ps ≡ flat (under s ps) ++ (labelled s (rows_at s ps) ++ flat (over s ps))
+  flat_apart s low ps h =
+      ap flat (apart s low ps h) ∙ flat_parts (under s ps) (part_of s (rows_at s ps) ++ over s ps)
+      ∙ ap (λ l. flat (under s ps) ++ l) (flat_parts (part_of s (rows_at s ps)) (over s ps) ∙ ap (λ l. l ++ flat (over s ps)) (flat_part s (rows_at s ps)))
+
+  -- one row more in the highest section
+  pub flat_added : (s low : ℕ) (ps : List (Part K)) (r : Row K) → Proper low ps → over s ps ≡ [] → flat (under s ps ++ part_of s (rows_at s ps ++ (r ∷ []))) ≡ flat ps ++ ((s, r) ∷ [])
+  flat_added s low ps r h o =
+      let rows = rows_at s ps in
+      flat_parts (under s ps) (part_of s (rows ++ (r ∷ []))) ∙ ap (λ l. flat (under s ps) ++ l) (flat_part s (rows ++ (r ∷ [])) ∙ labelled_append s rows (r ∷ []))
+      ∙ sym (append_assoc (flat (under s ps)) (labelled s rows) ((s, r) ∷ []))
+      ∙ sym (ap (λ l. l ++ ((s, r) ∷ [])) (flat_apart s low ps h ∙ ap (λ l. flat (under s ps) ++ l) (ap (λ qs. labelled s rows ++ flat qs) o ∙ append-nil (labelled s rows))))
+
+  cut_lower : (s n m : ℕ) (rows : List (Row K)) (xs : List (ℕ × Row K)) → m < s → cut label s n (labelled m rows ++ xs) ≡ labelled m rows ++ cut label s n xs
+  cut_lower s n m [] xs l = refl
+  cut_lower s n m (r ∷ rs) xs l = cond-true (ltb m s) _ _ (lt-ltb m s l) ∙ ap (λ k. (m, r) ∷ k) (cut_lower s n m rs xs l)
+
+  cut_under : (s n : ℕ) (ps : List (Part K)) (xs : List (ℕ × Row K)) → cut label s n (flat (under s ps) ++ xs) ≡ flat (under s ps) ++ cut label s n xs
+  cut_under s n [] xs = refl
+  cut_under s n (p ∷ ps) xs =
+      let F : Bool → Type 0 = λ b. cut label s n (flat (cond b (p ∷ under s ps) []) ++ xs) ≡ flat (cond b (p ∷ under s ps) []) ++ cut label s n xs in
+      ⊎_elim
+      (λ l.
+      let rest = cut_under s n ps xs in
+      let own = labelled p.number p.rows in
+      subst F (sym (lt-ltb p.number s l))
+      (ap (cut label s n) (append_assoc own (flat (under s ps)) xs) ∙ cut_lower s n p.number p.rows (flat (under s ps) ++ xs) l ∙ ap (λ k. own ++ k) rest ∙ sym (append_assoc own (flat (under s ps)) (cut label s n xs))))
+      (λ g. subst F (sym (le-ltb p.number s g)) refl)
+      (cases_lt p.number s)
+
+  cut_own : (s n : ℕ) (rows : List (Row K)) (xs : List (ℕ × Row K)) → n ≤ length rows → cut label s 0 xs ≡ [] → cut label s n (labelled s rows ++ xs) ≡ labelled s (take n rows)
+  cut_own s zero [] xs l e = e
+  cut_own s (suc n) [] xs l e = absurd (omega arith)
+  cut_own s zero (r ∷ rs) xs l e = cond-false (ltb s s) _ _ (le-ltb s s (omega arith)) ∙ cond-false (eqb s s && ltb 0 0) _ _ (and_right (eqb s s) (ltb 0 0) refl)
+  cut_own s (suc n) (r ∷ rs) xs l e =
+      let one : suc n - 1 ≡ n = omega arith in
+      cond-false (ltb s s) _ _ (le-ltb s s (omega arith)) ∙ cond-true (eqb s s && ltb 0 (suc n)) _ _ (and_from (eqb s s) (ltb 0 (suc n)) (eq-eqb s s refl) (lt-ltb 0 (suc n) (omega arith)))
+      ∙ ap (λ k. (s, r) ∷ k) (ap (λ m. cut label s m (labelled s rs ++ xs)) one ∙ cut_own s n rs xs (omega arith) e)
+
+  cut_none : (s low : ℕ) (xs : List (ℕ × Row K)) → Ordered label low xs → s ≤ low → cut label s 0 xs ≡ []
+  cut_none s low [] o l = refl
+  cut_none s low (x ∷ xs) o l = cond-false (ltb x.0 s) _ _ (le-ltb x.0 s (omega (arith, o.0))) ∙ cond-false (eqb x.0 s && ltb 0 0) _ _ (and_right (eqb x.0 s) (ltb 0 0) refl)
+
+  over_proper : (s low : ℕ) (ps : List (Part K)) → Proper low ps → Proper s (over s ps)
+  over_proper s low [] h = tt
+  over_proper s low (p ∷ ps) h =
+      let F : Bool → Type 0 = λ b. Proper s (cond b (over s ps) (p ∷ ps)) in
+      ⊎_elim
+      (λ l. subst F (sym (lt-leb p.number s l)) (omega arith, h.1, h.2))
+      (λ g. subst F (sym (le-leb p.number s g)) (over_proper s (suc p.number) ps h.2))
+      (cases_lt s p.number)
+
+  -- cut back to the first n rows of a section
+  pub flat_cut : (s low n : ℕ) (ps : List (Part K)) → Proper low ps → n ≤ length (rows_at s ps) → flat (under s ps ++ part_of s (take n (rows_at s ps))) ≡ cut label s n (flat ps)
+  flat_cut s low n ps h l =
+      flat_parts (under s ps) (part_of s (take n (rows_at s ps))) ∙ ap (λ k. flat (under s ps) ++ k) (flat_part s (take n (rows_at s ps)))
+      ∙ sym (ap (cut label s n) (flat_apart s low ps h) ∙ cut_under s n ps (labelled s (rows_at s ps) ++ flat (over s ps))
+      ∙ ap (λ k. flat (under s ps) ++ k) (cut_own s n (rows_at s ps) (flat (over s ps)) l (cut_none s s (flat (over s ps)) (ordered_flat s (over s ps) (over_proper s low ps h)) (omega arith))))
+
+  -- ---- memory
+
+  part_one : (s : ℕ) (rows : List (Row K)) → 0 < length rows → part_of s rows ≡ part s rows ∷ []
+  part_one s [] l = absurd (omega arith)
+  part_one s (r ∷ rs) l = refl
+
+module _ {K : Type 0} (bytes : K → List ℕ) (w : ℕ) (sized : (k : K) → length (bytes k) ≡ w) (s : ℕ) (ps : List (Part K)) (proper : Proper 0 ps) where
+  -- the sections before s, and s with other rows
+  abbrev pub with_rows : List (Row K) → List (Part K)
+  with_rows rows = under s ps ++ part_of s rows
+
+  relaid : (rows : List (Row K)) → RowsFit rows → stored_bytes rows ≤ 2 ^ 63 → (used : ℕ) (directory : List Section) (records values x y : List ℕ) → used ≤ length directory →
+      take used directory ≡ directory_of 0 0 (under s ps) ++ directory_of (row_total (under s ps)) (byte_total (under s ps)) (part_of s rows) →
+      records ≡ (records_of bytes (under s ps) ++ records_from bytes 0 rows) ++ x → values ≡ (values_of (under s ps) ++ stored_of_rows rows) ++ y →
+      Laid bytes w used directory records values (with_rows rows)
+  relaid rows fit bound used directory records values x y within entries recs vals =
+      let r : records_of bytes (with_rows rows) ≡ records_of bytes (under s ps) ++ records_from bytes 0 rows =
+      records_append bytes w sized (under s ps) (part_of s rows) ∙ ap (λ l. records_of bytes (under s ps) ++ l) (records_part bytes w sized s rows) in
+      let v : values_of (with_rows rows) ≡ values_of (under s ps) ++ stored_of_rows rows = values_append (under s ps) (part_of s rows) ∙ ap (λ l. values_of (under s ps) ++ l) (values_part s rows) in
+      record {
+        within = within;
+        entries = entries ∙ sym (directory_append 0 0 (under s ps) (part_of s rows) ∙ (λ i. directory_of 0 0 (under s ps) ++ directory_of (zero-add (row_total (under s ps)) i) (zero-add (byte_total (under s ps)) i) (part_of s rows)));
+        recorded = front_kept (row_total (with_rows rows) * (w + 28)) (records_of bytes (with_rows rows)) records x (length_records bytes w sized (with_rows rows)) (recs ∙ ap (λ l. l ++ x) (sym r));
+        kept = front_kept (byte_total (with_rows rows)) (values_of (with_rows rows)) values y (length_values (with_rows rows)) (vals ∙ ap (λ l. l ++ y) (sym v));
+        proper = under_proper s 0 ps rows (omega arith) proper fit bound;
+      }
+
+  module _ (used : ℕ) (directory : List Section) (entries : take used directory ≡ directory_of 0 0 ps) where
+    at : ℕ
+    at = before s (numbers (directory_of 0 0 ps))
+
+    front : (n : ℕ) → n ≡ before s (numbers (directory_of 0 0 ps)) → n ≤ used → take n directory ≡ directory_of 0 0 (under s ps)
+    front n e l = sym (take-take n used directory l) ∙ ap (take n) entries ∙ ap (λ k. take k (directory_of 0 0 ps)) e ∙ sym (under_directory s 0 0 ps)
+
+    -- the directory with an entry for s, and without one
+    pub entered : (n : ℕ) (rows : List (Row K)) → n ≡ before s (numbers (directory_of 0 0 ps)) → n ≤ used → n < length directory → 0 < length rows →
+        take (n + 1) (set directory n (entry s (row_total (under s ps)) (byte_total (under s ps)) (length rows) (stored_bytes rows)))
+        ≡ directory_of 0 0 (under s ps) ++ directory_of (row_total (under s ps)) (byte_total (under s ps)) (part_of s rows)
+    entered n rows e l m some =
+        take_more_set directory n _ m ∙ ap (λ k. k ++ (entry s (row_total (under s ps)) (byte_total (under s ps)) (length rows) (stored_bytes rows) ∷ [])) (front n e l)
+        ∙ ap (λ qs. directory_of 0 0 (under s ps) ++ directory_of (row_total (under s ps)) (byte_total (under s ps)) qs) (sym (part_one s rows some))
+
+    pub left : (n : ℕ) → n ≡ before s (numbers (directory_of 0 0 ps)) → n ≤ used → take n directory ≡ directory_of 0 0 (under s ps) ++ []
+    left n e l = front n e l ∙ sym (append-nil (directory_of 0 0 (under s ps)))
+
+  -- ---- an append to the highest section
+
+  module _ (r : Row K) (fits : RowFits r) (none : over s ps ≡ []) (bound : stored_bytes (rows_at s ps) + length r.stored ≤ 2 ^ 63) where
+    more_fit : (rows : List (Row K)) → RowsFit rows → RowsFit (rows ++ (r ∷ []))
+    more_fit [] f = (fits, tt)
+    more_fit (q ∷ qs) f = (f.0, more_fit qs f.1)
+
+    records_then : (records : List ℕ) (k : ℕ) → records ≡ records_of bytes ps ++ drop (row_total ps * (w + 28)) records → k ≡ w + 28 →
+        put_mid (row_total ps * (w + 28)) k records (record_encoding bytes (record_of (stored_bytes (rows_at s ps)) r))
+        ≡ (records_of bytes (under s ps) ++ records_from bytes 0 (rows_at s ps ++ (r ∷ []))) ++ drop (row_total ps * (w + 28) + (w + 28)) records
+    records_then records k e wide =
+        let a = row_total ps * (w + 28) in
+        let enc : List ℕ = record_encoding bytes (record_of (stored_bytes (rows_at s ps)) r) in
+        let le : length enc ≡ w + 28 = length_record bytes w sized (record_of (stored_bytes (rows_at s ps)) r) in
+        let u : List ℕ = records_of bytes (under s ps) in
+        let own : List ℕ = records_from bytes 0 (rows_at s ps) in
+        let all : records_of bytes ps ≡ u ++ own = records_around bytes w sized s 0 ps proper ∙ ap (λ l. u ++ l) (ap (λ qs. own ++ records_of bytes qs) none ∙ append-nil own) in
+        let last : records_from bytes (0 + stored_bytes (rows_at s ps)) (r ∷ []) ≡ enc = append-nil (record_encoding bytes (record_of (0 + stored_bytes (rows_at s ps)) r)) ∙ ap (λ n. record_encoding bytes (record_of n r)) (zero-add (stored_bytes (rows_at s ps))) in
+        let grown : records_from bytes 0 (rows_at s ps ++ (r ∷ [])) ≡ own ++ enc = records_from_append bytes w sized 0 (rows_at s ps) (r ∷ []) ∙ ap (λ l. own ++ l) last in
+        piece a k (a + (w + 28)) (records_of bytes ps) records records enc enc (length_records bytes w sized ps) (omega arith) (omega arith) e refl
+        ∙ ap (λ l. l ++ drop (a + (w + 28)) records) (ap (λ l. l ++ enc) all ∙ append_assoc u own enc ∙ ap (λ l. u ++ l) (sym grown))
+
+    values_then : (values : List ℕ) (k : ℕ) → values ≡ values_of ps ++ drop (byte_total ps) values → k ≡ length r.stored →
+        put_mid (byte_total ps) k values r.stored ≡ (values_of (under s ps) ++ stored_of_rows (rows_at s ps ++ (r ∷ []))) ++ drop (byte_total ps + length r.stored) values
+    values_then values k e long =
+        let u : List ℕ = values_of (under s ps) in
+        let own : List ℕ = stored_of_rows (rows_at s ps) in
+        let all : values_of ps ≡ u ++ own = values_around s 0 ps proper ∙ ap (λ l. u ++ l) (ap (λ qs. own ++ values_of qs) none ∙ append-nil own) in
+        let grown : stored_of_rows (rows_at s ps ++ (r ∷ [])) ≡ own ++ r.stored = stored_rows_append (rows_at s ps) (r ∷ []) ∙ ap (λ l. own ++ l) (append-nil r.stored) in
+        piece (byte_total ps) k (byte_total ps + length r.stored) (values_of ps) values values r.stored r.stored (length_values ps) (omega arith) (omega arith) e refl
+        ∙ ap (λ l. l ++ drop (byte_total ps + length r.stored) values) (ap (λ l. l ++ r.stored) all ∙ append_assoc u own r.stored ∙ ap (λ l. u ++ l) (sym grown))
+
+    pub appended : (used n k m : ℕ) (directory : List Section) (records values : List ℕ) → Laid bytes w used directory records values ps →
+        n ≡ before s (numbers (directory_of 0 0 ps)) → n ≤ used → n < length directory → k ≡ w + 28 → m ≡ length r.stored →
+        Laid bytes w (n + 1) (set directory n (entry s (row_total (under s ps)) (byte_total (under s ps)) (length (rows_at s ps) + 1) (stored_bytes (rows_at s ps) + length r.stored)))
+        (put_mid (row_total ps * (w + 28)) k records (record_encoding bytes (record_of (stored_bytes (rows_at s ps)) r))) (put_mid (byte_total ps) m values r.stored) (with_rows (rows_at s ps ++ (r ∷ [])))
+    appended used n k m directory records values h e l inside wide long =
+        let rows = rows_at s ps in
+        let more : List (Row K) = rows ++ (r ∷ []) in
+        let fit = fit_at s 0 ps proper in
+        let count : length more ≡ length rows + 1 = length-append rows (r ∷ []) in
+        let sum : stored_bytes more ≡ stored_bytes rows + length r.stored = stored_bytes_append rows (r ∷ []) ∙ omega arith in
+        let written : Section = entry s (row_total (under s ps)) (byte_total (under s ps)) (length rows + 1) (stored_bytes rows + length r.stored) in
+        let same : entry s (row_total (under s ps)) (byte_total (under s ps)) (length more) (stored_bytes more) ≡ written = λ i. entry s (row_total (under s ps)) (byte_total (under s ps)) (count i) (sum i) in
+        relaid more (more_fit rows fit.each) (omega (arith, sum)) (n + 1) (set directory n written) _ _ _ _
+        (omega (arith, length-set directory n written))
+        (ap (λ d. take (n + 1) (set directory n d)) (sym same) ∙ entered used directory h.entries n more e l inside (omega (arith, count)))
+        (records_then records k h.recorded wide)
+        (values_then values m h.kept long)
+
+  -- ---- a restore to the first n rows
+
+  module _ (n : ℕ) (few : n ≤ length (rows_at s ps)) where
+    front_fit : (k : ℕ) (rows : List (Row K)) → RowsFit rows → RowsFit (take k rows)
+    front_fit zero rows f = tt
+    front_fit (suc k) [] f = tt
+    front_fit (suc k) (q ∷ qs) f = (f.0, front_fit k qs f.1)
+
+    rows_apart : rows_at s ps ≡ take n (rows_at s ps) ++ drop n (rows_at s ps)
+    rows_apart = sym (take-append-drop n (rows_at s ps))
+
+    front_less : stored_bytes (take n (rows_at s ps)) ≤ stored_bytes (rows_at s ps)
+    front_less = omega (arith, ap stored_bytes rows_apart, stored_bytes_append (take n (rows_at s ps)) (drop n (rows_at s ps)))
+
+    regroup : (u a b o x : List ℕ) → (u ++ ((a ++ b) ++ o)) ++ x ≡ (u ++ a) ++ (b ++ (o ++ x))
+    regroup u a b o x = simp append_assoc
+
+    kept_back : (used m : ℕ) (directory after : List Section) (records values : List ℕ) → Laid bytes w used directory records values ps → m ≤ length after →
+        take m after ≡ directory_of 0 0 (under s ps) ++ directory_of (row_total (under s ps)) (byte_total (under s ps)) (part_of s (take n (rows_at s ps))) →
+        Laid bytes w m after records values (with_rows (take n (rows_at s ps)))
+    kept_back used m directory after records values h within entries =
+        let rows = rows_at s ps in
+        let fit = fit_at s 0 ps proper in
+        let a : List (Row K) = take n rows in
+        let b : List (Row K) = drop n rows in
+        let x : List ℕ = drop (row_total ps * (w + 28)) records in
+        let y : List ℕ = drop (byte_total ps) values in
+        let u : List ℕ = records_of bytes (under s ps) in
+        let v : List ℕ = values_of (under s ps) in
+        let recs = h.recorded ∙ ap (λ l. l ++ x) (records_around bytes w sized s 0 ps proper ∙ ap (λ l. u ++ (l ++ records_of bytes (over s ps))) (ap (records_from bytes 0) rows_apart ∙ records_from_append bytes w sized 0 a b))
+        ∙ regroup u (records_from bytes 0 a) (records_from bytes (0 + stored_bytes a) b) (records_of bytes (over s ps)) x in
+        let vals = h.kept ∙ ap (λ l. l ++ y) (values_around s 0 ps proper ∙ ap (λ l. v ++ (l ++ values_of (over s ps))) (ap stored_of_rows rows_apart ∙ stored_rows_append a b))
+        ∙ regroup v (stored_of_rows a) (stored_of_rows b) (values_of (over s ps)) y in
+        relaid a (front_fit n rows fit.each) (omega (arith, front_less, fit.bounded)) m after records values _ _ within entries recs vals
+
+    pub restored_none : (used m : ℕ) (directory : List Section) (records values : List ℕ) → Laid bytes w used directory records values ps → n ≡ 0 → m ≡ before s (numbers (directory_of 0 0 ps)) → m ≤ used →
+        Laid bytes w m directory records values (with_rows (take n (rows_at s ps)))
+    restored_none used m directory records values h z e l =
+        kept_back used m directory directory records values h (omega (arith, h.within))
+        (left used directory h.entries m e l ∙ ap (λ k. directory_of 0 0 (under s ps) ++ directory_of (row_total (under s ps)) (byte_total (under s ps)) (part_of s (take k (rows_at s ps)))) (sym z))
+
+    pub restored_some : (used m : ℕ) (directory : List Section) (records values : List ℕ) → Laid bytes w used directory records values ps → 0 < n → m ≡ before s (numbers (directory_of 0 0 ps)) → m ≤ used → m < length directory →
+        Laid bytes w (m + 1) (set directory m (entry s (row_total (under s ps)) (byte_total (under s ps)) n (stored_bytes (take n (rows_at s ps))))) records values (with_rows (take n (rows_at s ps)))
+    restored_some used m directory records values h z e l inside =
+        let count : length (take n (rows_at s ps)) ≡ n = length-take n (rows_at s ps) ∙ omega arith in
+        let written : ℕ → Section = λ k. entry s (row_total (under s ps)) (byte_total (under s ps)) k (stored_bytes (take n (rows_at s ps))) in
+        kept_back used (m + 1) directory (set directory m (written n)) records values h (omega (arith, length-set directory m (written n)))
+        (ap (λ k. take (m + 1) (set directory m (written k))) (sym count) ∙ entered used directory h.entries m (take n (rows_at s ps)) e l inside (omega (arith, count)))

@@ -1,0 +1,4 @@
+pub mod Parts
+pub mod Directory
+pub mod Places
+pub mod Plans

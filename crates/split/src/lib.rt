@@ -1,0 +1,12 @@
+// The split journal: records, stored values and a directory of sections, each in lent memory.
+#![tactic(auto)]
+
+mod directory;
+mod place;
+mod places;
+mod room;
+mod section;
+mod store;
+
+pub use section::Section;
+pub use store::SplitJournal;
