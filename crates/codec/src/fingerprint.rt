@@ -19,15 +19,15 @@ impl Key for Fingerprint {
 
     ghost bytes = { λ f. f.digest };
 
-    ghost low = { first_of (Prim.search rules, Prim.grind (arith, Self.row.coded.inj)) };
+    ghost low = { Prim.search rules };
 
-    ghost high = { first_of (Prim.search rules, Prim.grind (arith, Self.row.coded.inj)) };
+    ghost high = { Prim.search rules };
 
-    ghost sized = { first_of (Prim.search rules, Prim.grind (arith, Self.row.coded.inj)) };
+    ghost sized = { Prim.search rules };
 
     ghost octets = { λ k. under_all k.digest k.ok.1 };
 
-    ghost same = { first_of (Prim.search rules, Prim.grind (arith, Self.row.coded.inj)) };
+    ghost same = { Prim.grind (arith, Self.row.coded.inj) };
 
     ghost onto = { λ bs l u. (record { digest = bs; ok = (l, all_under bs u) }, refl) };
 

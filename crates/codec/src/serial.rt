@@ -4,7 +4,7 @@ ghost use Rattle.codec.specs.Bytes.{be, number};
 ghost use Rattle.codec.specs.Rounds.{under_be, be_same, be_back, number_lt};
 ghost use mathlib.Core.HLevel.{is_prop→PathP};
 ghost use Rattle.std.proofs.Math.Bridge.{le_prop};
-ghost use Rattle.std.proofs.Common.{subst, rules, arith};
+ghost use Rattle.std.proofs.Common.{subst, rules};
 
 use crate::bytes::{put_u64, take_u64};
 use crate::key::Key;
@@ -22,11 +22,11 @@ impl Key for Serial {
 
     ghost bytes = { λ s. be 8 s.value };
 
-    ghost low = { first_of (Prim.search rules, Prim.grind (arith, Self.row.coded.inj)) };
+    ghost low = { Prim.search rules };
 
-    ghost high = { first_of (Prim.search rules, Prim.grind (arith, Self.row.coded.inj)) };
+    ghost high = { Prim.search rules };
 
-    ghost sized = { first_of (Prim.search rules, Prim.grind (arith, Self.row.coded.inj)) };
+    ghost sized = { Prim.search rules };
 
     ghost octets = { λ k. under_be 8 k.value };
 

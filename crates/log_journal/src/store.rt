@@ -1,5 +1,5 @@
 // A journal in lent bytes: the log's rows, and zeros behind them. Each change is durable at once.
-ghost use Rattle.std.specs.Prelude.{◌≡◌, ◌+◌, ◌-◌, ◌≤◌, [], ◌∷◌, ◌++◌, length, take, replicate};
+ghost use Rattle.std.specs.Prelude.{◌≡◌, ◌+◌, ◌-◌, [], ◌∷◌, length, take};
 ghost use Rattle.journal.specs.Answers.{answered, append_after, append_answer, restore_after};
 ghost use Rattle.journal.specs.Rows.{apply, clear, restore_fault};
 ghost use Rattle.journal.specs.Log.{row_len};

@@ -3,7 +3,7 @@ ghost use Rattle.std.specs.Prelude.{◌≡◌, Ok, refl};
 ghost use Rattle.codec.specs.Seals.{sealed_check, sealed_bytes, sealed_read};
 ghost use Rattle.codec.specs.Kept.{sealed_most};
 ghost use Rattle.codec.specs.SealedOf.{sealed_octets, sealed_made, sealed_back};
-ghost use Rattle.std.proofs.Common.{rules, arith};
+ghost use Rattle.std.proofs.Common.{rules};
 
 use super::{SEALED_MOST, Sealed};
 use crate::fault::KindFault;
@@ -47,9 +47,9 @@ impl Value for Sealed {
 
     ghost decoding = { sealed_read };
 
-    ghost high = { first_of (Prim.search rules, Prim.grind (arith, Self.row.coded.inj)) };
+    ghost high = { Prim.search rules };
 
-    ghost within = { first_of (Prim.search rules, Prim.grind (arith, Self.row.coded.inj)) };
+    ghost within = { Prim.search rules };
 
     ghost octets = { sealed_octets };
 

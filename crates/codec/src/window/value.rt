@@ -4,7 +4,7 @@ ghost use Rattle.codec.specs.Windows.{window_check, window_bytes, window_read};
 ghost use Rattle.codec.specs.Bytes.{be};
 ghost use Rattle.codec.specs.Rounds.{under_be, under_append, number-be};
 ghost use Rattle.codec.specs.WindowOf.{window_made, first_fits, end_fits, window_back};
-ghost use Rattle.std.proofs.Common.{rules, arith};
+ghost use Rattle.std.proofs.Common.{rules};
 
 use super::Window;
 use crate::bytes::{put_u64, take_u64};
@@ -53,9 +53,9 @@ impl Value for Window {
 
     ghost decoding = { window_read };
 
-    ghost high = { first_of (Prim.search rules, Prim.grind (arith, Self.row.coded.inj)) };
+    ghost high = { Prim.search rules };
 
-    ghost within = { first_of (Prim.search rules, Prim.grind (arith, Self.row.coded.inj)) };
+    ghost within = { Prim.search rules };
 
     ghost octets = { λ v. under_append (be 8 v.first) (be 8 v.end) (under_be 8 v.first) (under_be 8 v.end) };
 
