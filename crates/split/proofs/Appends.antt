@@ -14,7 +14,7 @@ use Rattle.journal.proofs.Tells.{append_tells, fault_none}
 use Rattle.split.specs.declared.place.Place.{Place}
 use Rattle.split.specs.declared.section.Section.{Section}
 use Rattle.split.specs.Directory.{before, end_byte, end_row, entry, entry_of, numbers, top}
-use Rattle.split.specs.Parts.{Part, Laid, byte_total, flat, has_space, label, over, parts_mean, row_total, rows_at, split_good, split_means, unlabelled}
+use Rattle.split.specs.Parts.{Part, Laid, byte_total, flat, has_space, label, over, parts_mean, row_total, rows_at, IsSplitGood, split_means, unlabelled}
 use Rattle.split.specs.Plans.{at_entry, entry_with, place_of}
 use Rattle.split.proofs.Around.{none_over, sections_are}
 use Rattle.split.proofs.Changes.{appended, flat_added, with_rows}
@@ -112,11 +112,11 @@ module _ {K : Type 0} (bytes : K → List ℕ) (w : ℕ) (sized : (k : K) → le
       size = ap (λ n. n + 4) (sym long) ∙ sym (length_stored enc)
 
       -- the memory afterwards
-      abbrev after_append : Place → ℕ → ℕ → List ℕ → List ℕ → List (Part K) → Type 0
-      after_append p wide n recs vals qs = Laid bytes w (p.at + 1) (set directory p.at (entry s p.entry.first_row p.entry.first_byte (p.entry.rows + 1) (p.entry.bytes + n)))
+      abbrev AfterAppend : Place → ℕ → ℕ → List ℕ → List ℕ → List (Part K) → Type 0
+      AfterAppend p wide n recs vals qs = Laid bytes w (p.at + 1) (set directory p.at (entry s p.entry.first_row p.entry.first_byte (p.entry.rows + 1) (p.entry.bytes + n)))
           (put_mid p.row (p.row + wide - p.row) records recs) (put_mid p.byte (p.byte + n - p.byte) values vals) qs
 
-      laid : after_append (place_of s ps w) (w + 28) (length (stored_of enc)) (record_encoding bytes (record_with k ns np (stored_bytes (rows_at s ps)) (length (stored_of enc)))) (stored_of enc) (with_rows bytes w sized s ps h.proper (rows_at s ps ++ (row ∷ [])))
+      laid : AfterAppend (place_of s ps w) (w + 28) (length (stored_of enc)) (record_encoding bytes (record_with k ns np (stored_bytes (rows_at s ps)) (length (stored_of enc)))) (stored_of enc) (with_rows bytes w sized s ps h.proper (rows_at s ps ++ (row ∷ [])))
       unfolding row
       laid =
           appended bytes w sized s ps h.proper row (record { next_section_fits = ns_fits; next_position_fits = np_fits; has_check = omega (arith, size); size_fits = omega (arith, size) }) highest (omega (arith, bound, size))
@@ -126,7 +126,7 @@ module _ {K : Type 0} (bytes : K → List ℕ) (w : ℕ) (sized : (k : K) → le
         pub answer : Ok (p.entry.rows, p.entry.bytes, n) ≡ append_answer (w + 28) (parts_mean ps) (space (length enc)) s enc
         pub after : split_means decoding w (p.at + 1) (set directory p.at (entry s p.entry.first_row p.entry.first_byte (p.entry.rows + 1) (p.entry.bytes + n))) (put_mid p.row (p.row + wide - p.row) records recs) (put_mid p.byte (p.byte + n - p.byte) values vals)
             ≡ append_after (w + 28) (parts_mean ps) (space (length enc)) s k ns np enc
-        pub good : split_good decoding w (p.at + 1) (set directory p.at (entry s p.entry.first_row p.entry.first_byte (p.entry.rows + 1) (p.entry.bytes + n))) (put_mid p.row (p.row + wide - p.row) records recs) (put_mid p.byte (p.byte + n - p.byte) values vals) bytes
+        pub good : IsSplitGood decoding w (p.at + 1) (set directory p.at (entry s p.entry.first_row p.entry.first_byte (p.entry.rows + 1) (p.entry.bytes + n))) (put_mid p.row (p.row + wide - p.row) records recs) (put_mid p.byte (p.byte + n - p.byte) values vals) bytes
 
       none : append_fault (space (length enc)) (w + 28) (parts_mean ps) s (length (stored_of enc)) ≡ None
       none = (λ i. append_fault (space (long i)) (w + 28) (parts_mean ps) s (sym size i)) ∙ accepted

@@ -13,7 +13,7 @@ use Rattle.journal.proofs.Tells.{restore_tells}
 use Rattle.split.specs.declared.place.Cut.{Cut}
 use Rattle.split.specs.declared.section.Section.{Section}
 use Rattle.split.specs.Directory.{before, entry, entry_of, numbers}
-use Rattle.split.specs.Parts.{Part, Laid, flat, label, unlabelled, parts_mean, rows_at, directory_of, split_good, split_means}
+use Rattle.split.specs.Parts.{Part, Laid, flat, label, unlabelled, parts_mean, rows_at, directory_of, IsSplitGood, split_means}
 use Rattle.split.specs.Places.{first_bytes, offset_of}
 use Rattle.split.specs.Plans.{at_entry, cut_of, entry_with}
 use Rattle.split.proofs.Changes.{flat_cut, ordered_flat, restored_none, restored_some, with_rows}
@@ -115,7 +115,7 @@ module _ {K : Type 0} (bytes : K → List ℕ) (w : ℕ) (sized : (k : K) → le
 
     pub record Left (m : ℕ) (ds : List Section) : Type 0 where
       pub after : split_means decoding w m ds records values ≡ restore_after (w + 28) (parts_mean ps) s b
-      pub good : split_good decoding w m ds records values bytes
+      pub good : IsSplitGood decoding w m ds records values bytes
 
     leaves : (m : ℕ) (ds : List Section) → Laid bytes w m ds records values (with_rows bytes w sized s ps h.proper (take (b / (w + 28)) (rows_at s ps))) → Left m ds
     leaves m ds l = record {

@@ -179,8 +179,8 @@ module _ {K : Type 0} (decoding : List ℕ → K) (w used : ℕ) (directory : Li
   split_means = parts_mean split_parts
 
   -- when it is in good order
-  abbrev pub split_good : (K → List ℕ) → Type 0
-  split_good bytes = Laid bytes w used directory records values split_parts
+  abbrev pub IsSplitGood : (K → List ℕ) → Type 0
+  IsSplitGood bytes = Laid bytes w used directory records values split_parts
 
   -- a row with a value of n bytes fits if the records, the stored values and the directory have space for it; a section
   -- with rows has its entry already

@@ -1,6 +1,6 @@
 // The split journal.
 ghost use Rattle.std.specs.Prelude.{◌≡◌, ◌≤◌, [], ◌∷◌};
-ghost use Rattle.split.specs.Parts.{split_good, split_means, split_space};
+ghost use Rattle.split.specs.Parts.{IsSplitGood, split_means, split_space};
 ghost use Rattle.split.specs.Plans.{cut_answer, place_answer};
 
 use crate::directory::{before, end, entry_of, highest, is_below};
@@ -36,7 +36,7 @@ impl<'a, K: DecodedKey> SplitJournal<'a, K> {
         ensures values { result.values.now ≡ values.old }
         ensures directory { result.directory.now ≡ directory.old }
         ensures used { result.used ≡ 0 }
-        ensures good { split_good K.DecodedKey.decoding K.Key.width result.used result.directory.now result.records.now result.values.now K.Key.bytes }
+        ensures good { IsSplitGood K.DecodedKey.decoding K.Key.width result.used result.directory.now result.records.now result.values.now K.Key.bytes }
     {
         SplitJournal {
             records,
@@ -49,7 +49,7 @@ impl<'a, K: DecodedKey> SplitJournal<'a, K> {
 
     // Where a row with a value of so many bytes goes, or why it does not.
     fn place(&self, section: u64, len: usize) -> Result<Place, JournalFault>
-        requires good { split_good K.DecodedKey.decoding K.Key.width self.now.used self.now.directory.now self.now.records.now self.now.values.now K.Key.bytes }
+        requires good { IsSplitGood K.DecodedKey.decoding K.Key.width self.now.used self.now.directory.now self.now.records.now self.now.values.now K.Key.bytes }
         requires short { len ≤ 4096 }
         ensures { result ≡ place_answer K.DecodedKey.decoding K.Key.width self.now.used self.now.directory.now self.now.records.now self.now.values.now section len }
     {
@@ -81,7 +81,7 @@ impl<'a, K: DecodedKey> SplitJournal<'a, K> {
     // Where a restore to so many record bytes of a section cuts the directory, and the section's entry then; or why it is
     // refused.
     fn cut(&self, section: u64, bytes: u64) -> Result<Cut, JournalFault>
-        requires { split_good K.DecodedKey.decoding K.Key.width self.now.used self.now.directory.now self.now.records.now self.now.values.now K.Key.bytes }
+        requires { IsSplitGood K.DecodedKey.decoding K.Key.width self.now.used self.now.directory.now self.now.records.now self.now.values.now K.Key.bytes }
         ensures { result ≡ cut_answer K.DecodedKey.decoding K.Key.width self.now.used self.now.directory.now self.now.records.now self.now.values.now section bytes }
     {
         let used = self.used;
@@ -108,7 +108,7 @@ impl<'a, K: DecodedKey> SplitJournal<'a, K> {
 impl<'a, K: DecodedKey, V: Value> Journal<K, V> for SplitJournal<'a, K> {
     ghost means = { λ j. split_means K.DecodedKey.decoding K.Key.width j.used j.directory.now j.records.now j.values.now };
 
-    ghost good = { λ j. split_good K.DecodedKey.decoding K.Key.width j.used j.directory.now j.records.now j.values.now K.Key.bytes };
+    ghost good = { λ j. IsSplitGood K.DecodedKey.decoding K.Key.width j.used j.directory.now j.records.now j.values.now K.Key.bytes };
 
     ghost space = { λ j. split_space K.DecodedKey.decoding K.Key.width j.used j.directory.now j.records.now j.values.now };
 
@@ -203,8 +203,7 @@ impl<'a, K: DecodedKey, V: Value> Journal<K, V> for SplitJournal<'a, K> {
 
     fn value_end(&self, section: u64) -> u64 {
         let used = self.used;
-        let entry = entry_of(&self.directory[0..used], section);
-        entry.bytes
+        entry_of(&self.directory[0..used], section).bytes
     }
 
     fn highest(&self) -> Option<u64> {
