@@ -9,9 +9,12 @@ use Rattle.codec.specs.declared.serial.Serial.{Serial}
 use Rattle.codec.specs.Bytes.{be, number, all_bytes}
 use Rattle.codec.specs.Rounds.{be_back, number_lt}
 
+pub serial_fits : (n : ℕ) → n % 2 ^ 64 < 2 ^ 64
+serial_fits n = mod_below n (2 ^ 64) (omega arith)
+
 -- the serial of 8 bytes; a longer list counts by its last 8
 abbrev pub serial_of : List ℕ → Serial
-serial_of bs = record { value = number bs % 2 ^ 64; ok = mod_below (number bs) (2 ^ 64) (omega arith) }
+serial_of bs = record { value = number bs % 2 ^ 64; ok = serial_fits (number bs) }
 
 pub serial_back : (bs : List ℕ) → length bs ≡ 8 → AllBelowBase 256 bs → be 8 (number bs % 2 ^ 64) ≡ bs
 serial_back bs l u =
