@@ -2,7 +2,6 @@
 use crate::LogJournal;
 use codec::{Serial, Window};
 use journal::{Cursor, Journal, JournalFault, write_row};
-use std::process::Abort;
 
 // One row of 58 bytes: serial 7, the window 5 to 9, in section 3, with no next.
 fn one_row() -> [u8; 58] {
@@ -98,19 +97,21 @@ fn restored(rt: HostRuntime) {
     assert_eq!(rt; fault(journal.append(3, &key, 3, 0, &value)), 0);
     assert_eq!(rt; found(&journal, 1), Some((3, 20, true)));
     assert_eq!(rt; found(&journal, 2), None);
-    cut_back(&rt, &mut journal);
+    assert_eq!(rt; cut_back(&mut journal), (7, 7, 0));
     assert_eq!(rt; found(&journal, 0), Some((1, 0, true)));
     assert_eq!(rt; found(&journal, 1), None);
 }
 
-// Cuts section 3 back to one row of 36 bytes; half a row and three rows are refused.
-fn cut_back<J: Journal<Serial, Window>>(rt: &impl Abort, journal: &mut J)
+// Cuts section 3 back to one row of 36 bytes, and says what half a row, three rows and one were refused with.
+fn cut_back<J: Journal<Serial, Window>>(journal: &mut J) -> (u8, u8, u8)
     requires { J.good journal.old }
     ensures { J.good journal.new }
 {
-    assert_eq!(rt; fault(journal.restore(3, 18)), 7);
-    assert_eq!(rt; fault(journal.restore(3, 108)), 7);
-    assert_eq!(rt; fault(journal.restore(3, 36)), 0);
+    (
+        fault(journal.restore(3, 18)),
+        fault(journal.restore(3, 108)),
+        fault(journal.restore(3, 36)),
+    )
 }
 
 #[test]
