@@ -4,7 +4,7 @@ ghost use Rattle.std.specs.Int.Digits.{AllBelowBase};
 ghost use Rattle.std.specs.Str.{bytes_eq};
 
 pub trait Key: Sized {
-    // How many bytes a key has. Generic code asks `wide()`, since no clause can name a constant of a bound.
+    // How many bytes a key has. Generic code asks `wide()`.
     const WIDTH: usize;
 
     ghost width: { ℕ };

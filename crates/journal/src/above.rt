@@ -42,7 +42,7 @@ pub fn append_and_read<K: Key, V: Value, J: Journal<K, V>>(
     Ok((record, read))
 }
 
-// A restore of a section at its own size: the section and the earlier ones stay as they are.
+// A restore of a section at its own size keeps each row of it and of the earlier ones.
 pub fn restore_whole<K: Key, V: Value, J: Journal<K, V>>(
     journal: &mut J,
     section: u64,
