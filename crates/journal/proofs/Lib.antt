@@ -8,3 +8,4 @@ pub mod Flat
 pub mod RowsBack
 pub mod Tells
 pub mod Whole
+pub mod Written
