@@ -1,61 +1,73 @@
-// Big-endian numbers of 1, 4 and 8 bytes, each the same two definitions at its width; and zeroing.
-ghost use Rattle.std.specs.Prelude.{◌≡◌, ◌-◌, ◌≤◌, ◌++◌, length, take, drop, replicate};
+// Numbers as bytes, the highest byte first, and filling a part of a slice.
+ghost use Rattle.std.specs.Prelude.{◌≡◌, ℕ, ◌-◌, ◌≤◌, ◌++◌, length, take, drop, replicate};
 ghost use Rattle.codec.specs.Bytes.{be, number};
 
-pub fn put_u8(out: &mut [u8], n: u8)
-    requires { length out.old ≡ 1 }
-    ensures written { out.new ≡ be 1 n }
-    ensures back { number out.new ≡ n }
-{
-    out.copy_from_slice(&u8::to_be_bytes(n));
+// A number that a format writes, each by the same two definitions at its width.
+pub trait Number: Sized {
+    // How many bytes it takes.
+    ghost width: { ℕ };
+
+    ghost value: { Self → ℕ };
+
+    fn put(self, out: &mut [u8])
+        requires { length out.old ≡ width }
+        ensures written { out.new ≡ be width (value self) }
+        ensures back { number out.new ≡ value self };
+
+    fn take(from: &[u8]) -> Self
+        requires { length from.now ≡ width }
+        ensures value { value result ≡ number from.now }
+        ensures back { be width (value result) ≡ from.now };
 }
 
-pub fn put_u32(out: &mut [u8], n: u32)
-    requires { length out.old ≡ 4 }
-    ensures written { out.new ≡ be 4 n }
-    ensures back { number out.new ≡ n }
-{
-    out.copy_from_slice(&u32::to_be_bytes(n));
+impl Number for u8 {
+    ghost width = { 1 };
+
+    ghost value = { λ n. n };
+
+    fn put(self, out: &mut [u8]) {
+        out.copy_from_slice(&u8::to_be_bytes(self));
+    }
+
+    fn take(from: &[u8]) -> u8 {
+        u8::from_be_bytes(from.try_into().unwrap())
+    }
 }
 
-pub fn put_u64(out: &mut [u8], n: u64)
-    requires { length out.old ≡ 8 }
-    ensures written { out.new ≡ be 8 n }
-    ensures back { number out.new ≡ n }
-{
-    out.copy_from_slice(&u64::to_be_bytes(n));
+impl Number for u32 {
+    ghost width = { 4 };
+
+    ghost value = { λ n. n };
+
+    fn put(self, out: &mut [u8]) {
+        out.copy_from_slice(&u32::to_be_bytes(self));
+    }
+
+    fn take(from: &[u8]) -> u32 {
+        u32::from_be_bytes(from.try_into().unwrap())
+    }
 }
 
-pub fn take_u8(from: &[u8]) -> u8
-    requires { length from.now ≡ 1 }
-    ensures value { result ≡ number from.now }
-    ensures back { be 1 result ≡ from.now }
-{
-    u8::from_be_bytes([from[0]])
+impl Number for u64 {
+    ghost width = { 8 };
+
+    ghost value = { λ n. n };
+
+    fn put(self, out: &mut [u8]) {
+        out.copy_from_slice(&u64::to_be_bytes(self));
+    }
+
+    fn take(from: &[u8]) -> u64 {
+        u64::from_be_bytes(from.try_into().unwrap())
+    }
 }
 
-pub fn take_u32(from: &[u8]) -> u32
-    requires { length from.now ≡ 4 }
-    ensures value { result ≡ number from.now }
-    ensures back { be 4 result ≡ from.now }
+// Fills the places from `from` to `to` with one item.
+pub fn fill_part<T: Copy>(items: &mut [T], from: usize, to: usize, item: T)
+    requires { (from ≤ to) × (to ≤ length items.old) }
+    ensures { items.new ≡ take from items.old ++ (replicate (to - from) item ++ drop to items.old) }
 {
-    u32::from_be_bytes([from[0], from[1], from[2], from[3]])
-}
-
-pub fn take_u64(from: &[u8]) -> u64
-    requires { length from.now ≡ 8 }
-    ensures value { result ≡ number from.now }
-    ensures back { be 8 result ≡ from.now }
-{
-    u64::from_be_bytes([
-        from[0], from[1], from[2], from[3], from[4], from[5], from[6], from[7],
-    ])
-}
-
-// Zeroes the bytes from `from` to `to`.
-pub fn zero_part(bytes: &mut [u8], from: usize, to: usize)
-    requires { (from ≤ to) × (to ≤ length bytes.old) }
-    ensures { bytes.new ≡ take from bytes.old ++ (replicate (to - from) 0 ++ drop to bytes.old) }
-{
-    bytes[from..to].fill(0);
+    for slot in &mut items[from..to] {
+        *slot = item;
+    }
 }

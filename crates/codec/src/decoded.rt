@@ -12,7 +12,7 @@ pub trait DecodedKey: Key {
     ghost decoding: { List ℕ → Self };
 
     // Every run of bytes of that width is that key's.
-    ghost decoded: { (bs : List ℕ) → length bs ≡ Self.width → AllBelowBase 256 bs → Self.bytes (decoding bs) ≡ bs };
+    ghost decoded: { (bs : List ℕ) → length bs ≡ Self.WIDTH → AllBelowBase 256 bs → Self.bytes (decoding bs) ≡ bs };
 }
 
 impl DecodedKey for Serial {

@@ -6,7 +6,7 @@ ghost use Rattle.std.proofs.Common.{rules, arith};
 
 use crate::key::Key;
 
-#[derive(Clone, Copy)]
+#[derive(Clone, Copy, PartialEq, Eq, Debug)]
 pub struct Fingerprint {
     pub digest: [u8; 32],
     ghost ok: { (length digest ≡ 32) × (all_bytes digest ≡ true) },
@@ -15,7 +15,7 @@ pub struct Fingerprint {
 impl Key for Fingerprint {
     const WIDTH: usize = 32;
 
-    ghost width = { 32 };
+    ghost WIDTH = { 32 };
 
     ghost bytes = { λ f. f.digest };
 
@@ -30,10 +30,6 @@ impl Key for Fingerprint {
     ghost same = { Prim.grind (arith, Self.row.coded.inj) };
 
     ghost onto = { λ bs l u. (record { digest = bs; ok = (l, all_under bs u) }, refl) };
-
-    fn wide() -> usize {
-        Self::WIDTH
-    }
 
     fn encode(&self, out: &mut [u8]) {
         out.copy_from_slice(&self.digest);

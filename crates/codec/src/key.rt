@@ -4,29 +4,26 @@ ghost use Rattle.std.specs.Int.Digits.{AllBelowBase};
 ghost use Rattle.std.specs.Str.{bytes_eq};
 
 pub trait Key: Sized {
-    // How many bytes a key has. Generic code asks `wide()`.
+    // How many bytes a key has.
     const WIDTH: usize;
 
-    ghost width: { ℕ };
+    ghost WIDTH: { ℕ };
 
     ghost bytes: { Self → List ℕ };
 
-    fn wide() -> usize
-        ensures { result ≡ width };
-
     fn encode(&self, out: &mut [u8])
-        requires { length out.old ≡ width }
+        requires { length out.old ≡ WIDTH }
         ensures { out.new ≡ bytes self.now };
 
     fn decode(from: &[u8]) -> Self
-        requires { length from.now ≡ width }
+        requires { length from.now ≡ WIDTH }
         ensures { bytes result ≡ from.now };
 
-    ghost low: { 1 ≤ width };
+    ghost low: { 1 ≤ WIDTH };
 
-    ghost high: { width ≤ 64 };
+    ghost high: { WIDTH ≤ 64 };
 
-    ghost sized: { (k : Self) → length (bytes k) ≡ width };
+    ghost sized: { (k : Self) → length (bytes k) ≡ WIDTH };
 
     ghost octets: { (k : Self) → AllBelowBase 256 (bytes k) };
 
@@ -34,13 +31,7 @@ pub trait Key: Sized {
     ghost same: { (j k : Self) → bytes j ≡ bytes k → j ≡ k };
 
     // Every run of bytes of that width is some key's.
-    ghost onto: { (bs : List ℕ) → length bs ≡ width → AllBelowBase 256 bs → (k : Self) × (bytes k ≡ bs) };
-}
-
-fn same_bytes(a: &[u8], b: &[u8]) -> bool
-    ensures { result ≡ bytes_eq a.now b.now }
-{
-    a == b
+    ghost onto: { (bs : List ℕ) → length bs ≡ WIDTH → AllBelowBase 256 bs → (k : Self) × (bytes k ≡ bs) };
 }
 
 // Whether two keys are the same: true exactly when all their bytes are equal.
@@ -48,17 +39,10 @@ pub fn same_key<K: Key>(a: &K, b: &K) -> bool
     ensures bytes { result ≡ bytes_eq (K.Key.bytes a.now) (K.Key.bytes b.now) }
     ensures key { Decides result (a.now ≡ b.now) }
 {
-    let width = K::wide();
+    let width = K::WIDTH;
     let mut left = [0u8; 64];
     let mut right = [0u8; 64];
-    same_in(a, b, &mut left[0..width], &mut right[0..width])
-}
-
-fn same_in<K: Key>(a: &K, b: &K, left: &mut [u8], right: &mut [u8]) -> bool
-    requires { (length left.old ≡ K.Key.width) × (length right.old ≡ K.Key.width) }
-    ensures { result ≡ bytes_eq (K.Key.bytes a.now) (K.Key.bytes b.now) }
-{
-    a.encode(left);
-    b.encode(right);
-    same_bytes(left, right)
+    a.encode(&mut left[0..width]);
+    b.encode(&mut right[0..width]);
+    left[0..width] == right[0..width]
 }

@@ -13,7 +13,7 @@ mod tests;
 mod value;
 mod window;
 
-pub use bytes::{put_u8, put_u32, put_u64, take_u8, take_u32, take_u64, zero_part};
+pub use bytes::{Number, fill_part};
 pub use decoded::DecodedKey;
 pub use fault::KindFault;
 pub use fingerprint::Fingerprint;

@@ -6,7 +6,7 @@ ghost use mathlib.Core.HLevel.{is_prop→PathP};
 ghost use Rattle.std.proofs.Math.Bridge.{le_prop};
 ghost use Rattle.std.proofs.Common.{subst, rules};
 
-use crate::bytes::{put_u64, take_u64};
+use crate::bytes::Number;
 use crate::key::Key;
 
 #[derive(Clone, Copy, PartialEq, Eq, Debug)]
@@ -18,7 +18,7 @@ pub struct Serial {
 impl Key for Serial {
     const WIDTH: usize = 8;
 
-    ghost width = { 8 };
+    ghost WIDTH = { 8 };
 
     ghost bytes = { λ s. be 8 s.value };
 
@@ -39,17 +39,13 @@ impl Key for Serial {
       be_back 8 bs l u,
     ) };
 
-    fn wide() -> usize {
-        Self::WIDTH
-    }
-
     fn encode(&self, out: &mut [u8]) {
-        put_u64(out, self.value);
+        self.value.put(out);
     }
 
     fn decode(from: &[u8]) -> Serial {
         Serial {
-            value: take_u64(from),
+            value: u64::take(from),
         }
     }
 }

@@ -1,21 +1,18 @@
 // A key and a value of each kind there and back, and what is refused.
-use crate::{
-    Fingerprint, Key, KindFault, Sealed, Serial, Value, Window, put_u8, put_u32, put_u64, same_key,
-    take_u8, take_u32, take_u64,
-};
+use crate::{Fingerprint, Key, KindFault, Number, Sealed, Serial, Value, Window, same_key};
 use std::test::Fail;
 
 #[test]
 fn numbers(rt: HostRuntime) {
     let mut out = [0u8; 8];
-    put_u64(&mut out, 0x0102_0304_0506_0708);
+    0x0102_0304_0506_0708u64.put(&mut out);
     assert_eq!(rt; out, [1, 2, 3, 4, 5, 6, 7, 8]);
-    assert_eq!(rt; take_u64(&out), 0x0102_0304_0506_0708);
-    put_u32(&mut out[0..4], 0xfffe_fdfc);
+    assert_eq!(rt; u64::take(&out), 0x0102_0304_0506_0708);
+    0xfffe_fdfcu32.put(&mut out[0..4]);
     assert_eq!(rt; out, [0xff, 0xfe, 0xfd, 0xfc, 5, 6, 7, 8]);
-    assert_eq!(rt; take_u32(&out[0..4]), 0xfffe_fdfc);
-    put_u8(&mut out[7..8], 9);
-    assert_eq!(rt; take_u8(&out[7..8]), 9);
+    assert_eq!(rt; u32::take(&out[0..4]), 0xfffe_fdfc);
+    9u8.put(&mut out[7..8]);
+    assert_eq!(rt; u8::take(&out[7..8]), 9);
 }
 
 #[test]

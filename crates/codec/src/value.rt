@@ -3,17 +3,14 @@ ghost use Rattle.std.specs.Prelude.{◌≡◌, ℕ, ◌≤◌, List, ◌++◌, l
 ghost use Rattle.std.specs.Int.Digits.{AllBelowBase};
 
 pub trait Value: Sized {
-    // The most bytes that a value encodes to. Generic code asks `bound()`.
+    // The most bytes that a value encodes to.
     const MOST: usize;
 
-    ghost most: { ℕ };
+    ghost MOST: { ℕ };
 
     ghost encoding: { Self → List ℕ };
 
     ghost decoding: { List ℕ → Option Self };
-
-    fn bound() -> usize
-        ensures { result ≡ most };
 
     fn encode_size(&self) -> usize
         ensures { result ≡ length (encoding self.now) };
@@ -28,9 +25,9 @@ pub trait Value: Sized {
     fn decode(from: &[u8]) -> Option<Self>
         ensures { result ≡ decoding from.now };
 
-    ghost high: { most ≤ 4096 };
+    ghost high: { MOST ≤ 4096 };
 
-    ghost within: { (v : Self) → length (encoding v) ≤ most };
+    ghost within: { (v : Self) → length (encoding v) ≤ MOST };
 
     ghost octets: { (v : Self) → AllBelowBase 256 (encoding v) };
 

@@ -19,8 +19,8 @@ pub fn append_and_read<K: Key, V: Value, J: Journal<K, V>>(
     value: &V,
 ) -> Result<(Record<K>, V), JournalFault>
     requires { J.good journal.old }
-    ensures answer { result ≡ append_and_read_lem (K.Key.width + 28) (J.means journal.old) (J.space journal.old section (length (V.Value.encoding value.now))) section key.now next_section next_position (V.Value.encoding value.now) value.now }
-    ensures after { J.means journal.new ≡ append_after (K.Key.width + 28) (J.means journal.old) (J.space journal.old section (length (V.Value.encoding value.now))) section key.now next_section next_position (V.Value.encoding value.now) }
+    ensures answer { result ≡ append_and_read_lem (K.Key.WIDTH + 28) (J.means journal.old) (J.space journal.old section (length (V.Value.encoding value.now))) section key.now next_section next_position (V.Value.encoding value.now) value.now }
+    ensures after { J.means journal.new ≡ append_after (K.Key.WIDTH + 28) (J.means journal.old) (J.space journal.old section (length (V.Value.encoding value.now))) section key.now next_section next_position (V.Value.encoding value.now) }
     ensures good { J.good journal.new }
     ensures same { J.lent journal.new ≡ J.lent journal.old }
 {
@@ -49,7 +49,7 @@ pub fn restore_whole<K: Key, V: Value, J: Journal<K, V>>(
 ) -> Result<(), JournalFault>
     requires { J.good journal.old }
     ensures answer { result ≡ Ok tt }
-    ensures after { J.means journal.new ≡ apply (K.Key.width + 28) (J.means journal.old) (restore section (size_answer (K.Key.width + 28) (J.means journal.old) section)) }
+    ensures after { J.means journal.new ≡ apply (K.Key.WIDTH + 28) (J.means journal.old) (restore section (size_answer (K.Key.WIDTH + 28) (J.means journal.old) section)) }
     ensures kept { (i : ℕ) → i ≤ section → (J.means journal.new).rows i ≡ (J.means journal.old).rows i }
     ensures good { J.good journal.new }
     ensures same { J.lent journal.new ≡ J.lent journal.old }
@@ -62,8 +62,8 @@ pub fn restore_whole<K: Key, V: Value, J: Journal<K, V>>(
 pub fn row_count<K: Key, V: Value, J: Journal<K, V>>(journal: &J, section: u64) -> u64
     requires { J.good journal.now }
     ensures rows { result ≡ length ((J.means journal.now).rows section) }
-    ensures counted { result * (K.Key.width + 28) ≡ size_answer (K.Key.width + 28) (J.means journal.now) section }
+    ensures counted { result * (K.Key.WIDTH + 28) ≡ size_answer (K.Key.WIDTH + 28) (J.means journal.now) section }
     ensures reached { (p : ℕ) → is_ok (get_answer (J.means journal.now) section p) ≡ nat_lt p result }
 {
-    journal.size(section) / (K::wide() as u64 + 28)
+    journal.size(section) / (K::WIDTH as u64 + 28)
 }

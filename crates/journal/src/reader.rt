@@ -3,7 +3,7 @@ ghost use Rattle.std.specs.Prelude.{◌≡◌, ℕ, ◌+◌, ◌≤◌, List, �
 ghost use Rattle.journal.specs.Log.{KeyWide, LogRow, Rising, Shows, at_after, blank, last_after, log_bytes, look, shown, stands};
 
 use crate::step::Step;
-use codec::{Key, take_u32, take_u64};
+use codec::{Key, Number};
 use crc32c::checksum;
 use std::marker::PhantomData;
 
@@ -22,7 +22,7 @@ impl<'a, K: Key> LogReader<'a, K> {
         ensures log { result.log.now ≡ log.now }
         ensures at { result.at ≡ 0 }
         ensures last { result.last ≡ 0 }
-        ensures rows { (rows : List LogRow) (zeros : ℕ) → Rising K.Key.width 0 rows → log.now ≡ log_bytes rows ++ replicate zeros 0 → Shows K.Key.width result.log.now result.last result.at rows (blank (length (log_bytes rows))) }
+        ensures rows { (rows : List LogRow) (zeros : ℕ) → Rising K.Key.WIDTH 0 rows → log.now ≡ log_bytes rows ++ replicate zeros 0 → Shows K.Key.WIDTH result.log.now result.last result.at rows (blank (length (log_bytes rows))) }
     {
         LogReader {
             log,
@@ -33,14 +33,14 @@ impl<'a, K: Key> LogReader<'a, K> {
     }
 
     pub fn step(&mut self) -> Step<'a>
-        ensures shown { shown result ≡ look K.Key.width self.old.last self.old.at (drop self.old.at self.old.log.now) }
-        ensures key { KeyWide K.Key.width (shown result) }
-        ensures at { self.new.at ≡ at_after K.Key.width (shown result) }
+        ensures shown { shown result ≡ look K.Key.WIDTH self.old.last self.old.at (drop self.old.at self.old.log.now) }
+        ensures key { KeyWide K.Key.WIDTH (shown result) }
+        ensures at { self.new.at ≡ at_after K.Key.WIDTH (shown result) }
         ensures last { self.new.last ≡ last_after self.old.last (shown result) }
         ensures log { self.new.log.now ≡ self.old.log.now }
     {
         let log = self.log;
-        let width = K::wide();
+        let width = K::WIDTH;
         let step = look(&log[self.at..log.len()], width, self.last, self.at);
         if let Step::Row { section, value, .. } = step {
             self.at += 34 + width + value.len();
@@ -72,11 +72,11 @@ fn look<'a>(rest: &'a [u8], width: usize, last: u64, at: usize) -> Step<'a>
     if rest.len() < 34 + width {
         return Step::Spoiled { at };
     }
-    let section = take_u64(&rest[2..10]);
+    let section = u64::take(&rest[2..10]);
     if section < last {
         return Step::Spoiled { at };
     }
-    let size = take_u32(&rest[26 + width..30 + width]) as usize;
+    let size = u32::take(&rest[26 + width..30 + width]) as usize;
     if size > 4096 {
         return Step::Spoiled { at };
     }
@@ -84,13 +84,13 @@ fn look<'a>(rest: &'a [u8], width: usize, last: u64, at: usize) -> Step<'a>
         return Step::Spoiled { at };
     }
     let value = &rest[30 + width..30 + width + size];
-    let check = take_u32(&rest[30 + width + size..34 + width + size]);
+    let check = u32::take(&rest[30 + width + size..34 + width + size]);
     if check != checksum(value) {
         return Step::Spoiled { at };
     }
     let key = &rest[10..10 + width];
-    let next_section = take_u64(&rest[10 + width..18 + width]);
-    let next_position = take_u64(&rest[18 + width..26 + width]);
+    let next_section = u64::take(&rest[10 + width..18 + width]);
+    let next_position = u64::take(&rest[18 + width..26 + width]);
     Step::Row {
         at,
         section,

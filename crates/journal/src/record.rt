@@ -2,7 +2,7 @@
 ghost use Rattle.std.specs.Prelude.{◌≡◌, ◌+◌, length};
 ghost use Rattle.journal.specs.Layouts.{RecordFits, record_encoding, record_with};
 
-use codec::{Key, put_u32, put_u64, take_u32, take_u64};
+use codec::{Key, Number};
 
 // Both numbers of the next place all ones mean none.
 #[derive(Drop)]
@@ -23,43 +23,45 @@ pub fn write_record<K: Key>(
     value_offset: u64,
     value_size: u32,
 )
-    requires { length out.old ≡ K.Key.width + 28 }
+    requires { length out.old ≡ K.Key.WIDTH + 28 }
     ensures { out.new ≡ record_encoding K.Key.bytes (record_with key.now next_section next_position value_offset value_size) }
 {
-    let wide = K::wide();
+    let wide = K::WIDTH;
     key.encode(&mut out[0..wide]);
-    put_u64(&mut out[wide..wide + 8], next_section);
-    put_u64(&mut out[wide + 8..wide + 16], next_position);
-    put_u64(&mut out[wide + 16..wide + 24], value_offset);
-    put_u32(&mut out[wide + 24..wide + 28], value_size);
+    next_section.put(&mut out[wide..wide + 8]);
+    next_position.put(&mut out[wide + 8..wide + 16]);
+    value_offset.put(&mut out[wide + 16..wide + 24]);
+    value_size.put(&mut out[wide + 24..wide + 28]);
 }
 
 impl<K: Key> Record<K> {
     pub fn encode(&self, out: &mut [u8])
-        requires { length out.old ≡ K.Key.width + 28 }
+        requires { length out.old ≡ K.Key.WIDTH + 28 }
         ensures { out.new ≡ record_encoding K.Key.bytes self.now }
     {
-        let wide = K::wide();
-        self.key.encode(&mut out[0..wide]);
-        put_u64(&mut out[wide..wide + 8], self.next_section);
-        put_u64(&mut out[wide + 8..wide + 16], self.next_position);
-        put_u64(&mut out[wide + 16..wide + 24], self.value_offset);
-        put_u32(&mut out[wide + 24..wide + 28], self.value_size);
+        write_record(
+            out,
+            &self.key,
+            self.next_section,
+            self.next_position,
+            self.value_offset,
+            self.value_size,
+        );
     }
 
     // The record that bytes write: it encodes to them again, and no other does.
     pub fn decode(from: &[u8]) -> Record<K>
-        requires { length from.now ≡ K.Key.width + 28 }
+        requires { length from.now ≡ K.Key.WIDTH + 28 }
         ensures back { record_encoding K.Key.bytes result ≡ from.now }
         ensures one { (s : Record K) → RecordFits s → record_encoding K.Key.bytes s ≡ from.now → result ≡ s }
     {
-        let wide = K::wide();
+        let wide = K::WIDTH;
         Record {
             key: K::decode(&from[0..wide]),
-            next_section: take_u64(&from[wide..wide + 8]),
-            next_position: take_u64(&from[wide + 8..wide + 16]),
-            value_offset: take_u64(&from[wide + 16..wide + 24]),
-            value_size: take_u32(&from[wide + 24..wide + 28]),
+            next_section: u64::take(&from[wide..wide + 8]),
+            next_position: u64::take(&from[wide + 8..wide + 16]),
+            value_offset: u64::take(&from[wide + 16..wide + 24]),
+            value_size: u32::take(&from[wide + 24..wide + 28]),
         }
     }
 }

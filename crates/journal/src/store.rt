@@ -24,7 +24,7 @@ pub trait Journal<K: Key, V: Value> {
     // Does a row with this value fit in a section?
     fn fits(&self, section: u64, value: &V) -> bool
         requires { good self.now }
-        ensures { result ≡ fits_answer (K.Key.width + 28) (means self.now) (space self.now section (length (V.Value.encoding value.now))) section (V.Value.encoding value.now) };
+        ensures { result ≡ fits_answer (K.Key.WIDTH + 28) (means self.now) (space self.now section (length (V.Value.encoding value.now))) section (V.Value.encoding value.now) };
 
     // Adds a row to a section; answers its position, its value's offset and the size of its stored value.
     fn append(
@@ -36,8 +36,8 @@ pub trait Journal<K: Key, V: Value> {
         value: &V,
     ) -> Result<(u64, u64, u32), JournalFault>
         requires { good self.old }
-        ensures answer { result ≡ append_answer (K.Key.width + 28) (means self.old) (space self.old section (length (V.Value.encoding value.now))) section (V.Value.encoding value.now) }
-        ensures after { means self.new ≡ append_after (K.Key.width + 28) (means self.old) (space self.old section (length (V.Value.encoding value.now))) section key.now next_section next_position (V.Value.encoding value.now) }
+        ensures answer { result ≡ append_answer (K.Key.WIDTH + 28) (means self.old) (space self.old section (length (V.Value.encoding value.now))) section (V.Value.encoding value.now) }
+        ensures after { means self.new ≡ append_after (K.Key.WIDTH + 28) (means self.old) (space self.old section (length (V.Value.encoding value.now))) section key.now next_section next_position (V.Value.encoding value.now) }
         ensures good { good self.new }
         ensures same { lent self.new ≡ lent self.old };
 
@@ -54,7 +54,7 @@ pub trait Journal<K: Key, V: Value> {
     // The bytes of a section's records.
     fn size(&self, section: u64) -> u64
         requires { good self.now }
-        ensures { result ≡ size_answer (K.Key.width + 28) (means self.now) section };
+        ensures { result ≡ size_answer (K.Key.WIDTH + 28) (means self.now) section };
 
     // The bytes of a section's stored values.
     fn value_end(&self, section: u64) -> u64
@@ -69,22 +69,22 @@ pub trait Journal<K: Key, V: Value> {
     // Makes the sections from first to last durable.
     fn sync(&mut self, first: u64, last: u64)
         requires { good self.old }
-        ensures after { means self.new ≡ apply (K.Key.width + 28) (means self.old) (sync first last) }
+        ensures after { means self.new ≡ apply (K.Key.WIDTH + 28) (means self.old) (sync first last) }
         ensures good { good self.new }
         ensures same { lent self.new ≡ lent self.old };
 
     // Keeps the earlier sections and the rows of one that take so many bytes, and drops the rest.
     fn restore(&mut self, section: u64, bytes: u64) -> Result<(), JournalFault>
         requires { good self.old }
-        ensures answer { result ≡ restore_answer (K.Key.width + 28) (means self.old) section bytes }
-        ensures after { means self.new ≡ restore_after (K.Key.width + 28) (means self.old) section bytes }
+        ensures answer { result ≡ restore_answer (K.Key.WIDTH + 28) (means self.old) section bytes }
+        ensures after { means self.new ≡ restore_after (K.Key.WIDTH + 28) (means self.old) section bytes }
         ensures good { good self.new }
         ensures same { lent self.new ≡ lent self.old };
 
     // Drops all rows.
     fn clear(&mut self)
         requires { good self.old }
-        ensures after { means self.new ≡ apply (K.Key.width + 28) (means self.old) clear }
+        ensures after { means self.new ≡ apply (K.Key.WIDTH + 28) (means self.old) clear }
         ensures good { good self.new }
         ensures same { lent self.new ≡ lent self.old };
 }

@@ -3,7 +3,7 @@ ghost use Rattle.std.specs.Prelude.{◌≡◌, ◌+◌, length, Some, Ok};
 ghost use Rattle.journal.specs.Rows.{stored_of, value_there};
 
 use crate::fault::{Cursor, JournalFault};
-use codec::{Value, put_u32, take_u32};
+use codec::{Number, Value};
 use crc32c::checksum;
 
 // Fills `out` with a value and its check. Reading it at any place gives the value.
@@ -15,7 +15,7 @@ pub fn write_stored<V: Value>(out: &mut [u8], value: &V)
     let size = value.encode_size();
     value.encode(&mut out[0..size]);
     let check = checksum(&out[0..size]);
-    put_u32(&mut out[size..size + 4], check);
+    check.put(&mut out[size..size + 4]);
 }
 
 // The value of stored bytes at a place: 16 where they are too few for a check, 17 where the check is wrong, 18 where they
@@ -29,7 +29,7 @@ pub fn read_stored<V: Value>(stored: &[u8], place: Cursor) -> Result<V, JournalF
         return Err(JournalFault::NoValue(place));
     }
     let size = len - 4;
-    let check = take_u32(&stored[size..len]);
+    let check = u32::take(&stored[size..len]);
     let own = checksum(&stored[0..size]);
     if own != check {
         return Err(JournalFault::Check(check, own));

@@ -2,14 +2,14 @@
 ghost use Rattle.std.specs.Prelude.{◌≡◌, ◌+◌, length};
 ghost use Rattle.journal.specs.Log.{Writable, head_bytes, log_row, row_bytes, row_len, tail_bytes};
 
-use codec::{Key, Value, put_u32, put_u64};
+use codec::{Key, Number, Value};
 use crc32c::checksum;
 
 // How many bytes the row of a value takes.
 pub fn row_size<K: Key, V: Value>(value: &V) -> usize
-    ensures { result ≡ row_len K.Key.width (length (V.Value.encoding value.now)) }
+    ensures { result ≡ row_len K.Key.WIDTH (length (V.Value.encoding value.now)) }
 {
-    34 + K::wide() + value.encode_size()
+    34 + K::WIDTH + value.encode_size()
 }
 
 // Fills `out` with one row.
@@ -21,11 +21,11 @@ pub fn write_row<K: Key, V: Value>(
     next_position: u64,
     value: &V,
 )
-    requires { length out.old ≡ row_len K.Key.width (length (V.Value.encoding value.now)) }
+    requires { length out.old ≡ row_len K.Key.WIDTH (length (V.Value.encoding value.now)) }
     ensures written { out.new ≡ row_bytes (log_row section (K.Key.bytes key.now) next_section next_position (V.Value.encoding value.now)) }
-    ensures writable { Writable K.Key.width (log_row section (K.Key.bytes key.now) next_section next_position (V.Value.encoding value.now)) }
+    ensures writable { Writable K.Key.WIDTH (log_row section (K.Key.bytes key.now) next_section next_position (V.Value.encoding value.now)) }
 {
-    let head = 26 + K::wide();
+    let head = 26 + K::WIDTH;
     let end = out.len();
     write_head(&mut out[0..head], section, key, next_section, next_position);
     write_tail(&mut out[head..end], value);
@@ -33,15 +33,15 @@ pub fn write_row<K: Key, V: Value>(
 
 // The mark, the section, the key and the next place.
 fn write_head<K: Key>(out: &mut [u8], section: u64, key: &K, next_section: u64, next_position: u64)
-    requires { length out.old ≡ 26 + K.width }
+    requires { length out.old ≡ 26 + K.WIDTH }
     ensures { out.new ≡ head_bytes section (K.bytes key.now) next_section next_position }
 {
-    let wide = K::wide();
+    let wide = K::WIDTH;
     out[0..2].copy_from_slice(&[0x46, 0x5a]);
-    put_u64(&mut out[2..10], section);
+    section.put(&mut out[2..10]);
     key.encode(&mut out[10..10 + wide]);
-    put_u64(&mut out[10 + wide..18 + wide], next_section);
-    put_u64(&mut out[18 + wide..26 + wide], next_position);
+    next_section.put(&mut out[10 + wide..18 + wide]);
+    next_position.put(&mut out[18 + wide..26 + wide]);
 }
 
 // The value with its length and its check.
@@ -50,8 +50,8 @@ fn write_tail<V: Value>(out: &mut [u8], value: &V)
     ensures { out.new ≡ tail_bytes (V.encoding value.now) }
 {
     let size = value.encode_size();
-    put_u32(&mut out[0..4], size as u32);
+    (size as u32).put(&mut out[0..4]);
     value.encode(&mut out[4..4 + size]);
     let check = checksum(&out[4..4 + size]);
-    put_u32(&mut out[4 + size..8 + size], check);
+    check.put(&mut out[4 + size..8 + size]);
 }

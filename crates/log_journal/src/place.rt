@@ -23,10 +23,10 @@ fn in_bounds(tally: Tally, size: u64, stored: u64) -> bool
 
 // Does a value's row fit in so many free bytes, in a section of such rows?
 fn has_place<K: Key, V: Value>(free: usize, tally: Tally, value: &V) -> bool
-    requires { tally.rows * (K.Key.width + 28) < 2 ^ 64 }
-    ensures { result ≡ (nat_le (row_len K.Key.width (length (V.Value.encoding value.now))) free && (nat_le (suc tally.rows * (K.Key.width + 28)) (2 ^ 63) && nat_le (tally.bytes + length (stored_of (V.Value.encoding value.now))) (2 ^ 63))) }
+    requires { tally.rows * (K.Key.WIDTH + 28) < 2 ^ 64 }
+    ensures { result ≡ (nat_le (row_len K.Key.WIDTH (length (V.Value.encoding value.now))) free && (nat_le (suc tally.rows * (K.Key.WIDTH + 28)) (2 ^ 63) && nat_le (tally.bytes + length (stored_of (V.Value.encoding value.now))) (2 ^ 63))) }
 {
-    let size = K::wide() as u64 + 28;
+    let size = K::WIDTH as u64 + 28;
     let stored = value.encode_size() as u64 + 4;
     row_size::<K, V>(value) <= free && in_bounds(tally, size, stored)
 }
@@ -34,14 +34,14 @@ fn has_place<K: Key, V: Value>(free: usize, tally: Tally, value: &V) -> bool
 // Does a value's row fit in a section?
 pub fn row_fits<K: DecodedKey, V: Value>(log: &[u8], used: usize, section: u64, value: &V) -> bool
     requires { used ≤ length log.now }
-    ensures { result ≡ fits_answer (K.Key.width + 28) (log_means K.DecodedKey.decoding K.Key.width log.now) (log_space used K.Key.width log.now section (length (V.Value.encoding value.now))) section (V.Value.encoding value.now) }
+    ensures { result ≡ fits_answer (K.Key.WIDTH + 28) (log_means K.DecodedKey.decoding K.Key.WIDTH log.now) (log_space used K.Key.WIDTH log.now section (length (V.Value.encoding value.now))) section (V.Value.encoding value.now) }
 {
     has_place::<K, V>(log.len() - used, tally_of::<K>(log, section), value)
 }
 
 // Has a higher section rows?
 fn has_later<K: DecodedKey>(log: &[u8], section: u64) -> bool
-    ensures { result ≡ later_than section (log_means K.DecodedKey.decoding K.Key.width log.now) }
+    ensures { result ≡ later_than section (log_means K.DecodedKey.decoding K.Key.WIDTH log.now) }
 {
     match highest::<K>(log) {
         Some(high) => section < high,
@@ -57,7 +57,7 @@ pub fn place<K: DecodedKey, V: Value>(
     value: &V,
 ) -> Result<(u64, u64, u32), JournalFault>
     requires { used ≤ length log.now }
-    ensures { result ≡ append_answer (K.Key.width + 28) (log_means K.DecodedKey.decoding K.Key.width log.now) (log_space used K.Key.width log.now section (length (V.Value.encoding value.now))) section (V.Value.encoding value.now) }
+    ensures { result ≡ append_answer (K.Key.WIDTH + 28) (log_means K.DecodedKey.decoding K.Key.WIDTH log.now) (log_space used K.Key.WIDTH log.now section (length (V.Value.encoding value.now))) section (V.Value.encoding value.now) }
 {
     if has_later::<K>(log, section) {
         return Err(JournalFault::Below(section));
@@ -75,9 +75,9 @@ pub fn restored_end<K: DecodedKey>(
     section: u64,
     bytes: u64,
 ) -> Result<usize, JournalFault>
-    ensures { result ≡ answered (restore_fault (K.Key.width + 28) (log_means K.DecodedKey.decoding K.Key.width log.now) section bytes) (length (log_bytes (cut section_in section (bytes / (K.Key.width + 28)) (rows_in K.Key.width log.now)))) }
+    ensures { result ≡ answered (restore_fault (K.Key.WIDTH + 28) (log_means K.DecodedKey.decoding K.Key.WIDTH log.now) section bytes) (length (log_bytes (cut section_in section (bytes / (K.Key.WIDTH + 28)) (rows_in K.Key.WIDTH log.now)))) }
 {
-    let size = K::wide() as u64 + 28;
+    let size = K::WIDTH as u64 + 28;
     let tally = tally_of::<K>(log, section);
     if tally.rows * size < bytes || bytes % size != 0 {
         return Err(JournalFault::Restore(section));

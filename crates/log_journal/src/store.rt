@@ -7,7 +7,7 @@ ghost use Rattle.log_journal.specs.Kept.{IsLogGood, either, log_end, log_means, 
 
 use crate::place::{place, restored_end, row_fits};
 use crate::walk::{end, highest, record_at, tally_of, value_at};
-use codec::{DecodedKey, Key, Value, zero_part};
+use codec::{DecodedKey, Key, Value, fill_part};
 use journal::{Cursor, Journal, JournalFault, Record, row_size, write_row};
 use std::marker::PhantomData;
 
@@ -21,10 +21,10 @@ fn append_row<K: DecodedKey, V: Value>(
     next_position: u64,
     value: &V,
 ) -> Result<(u64, u64, u32), JournalFault>
-    requires { IsLogGood K.Key.width bytes.old used }
-    ensures answer { result ≡ append_answer (K.Key.width + 28) (log_means K.DecodedKey.decoding K.Key.width bytes.old) (log_space used K.Key.width bytes.old section (length (V.Value.encoding value.now))) section (V.Value.encoding value.now) }
-    ensures after { log_means K.DecodedKey.decoding K.Key.width bytes.new ≡ append_after (K.Key.width + 28) (log_means K.DecodedKey.decoding K.Key.width bytes.old) (log_space used K.Key.width bytes.old section (length (V.Value.encoding value.now))) section key.now next_section next_position (V.Value.encoding value.now) }
-    ensures good { IsLogGood K.Key.width bytes.new (either result used (used + row_len K.Key.width (length (V.Value.encoding value.now)))) }
+    requires { IsLogGood K.Key.WIDTH bytes.old used }
+    ensures answer { result ≡ append_answer (K.Key.WIDTH + 28) (log_means K.DecodedKey.decoding K.Key.WIDTH bytes.old) (log_space used K.Key.WIDTH bytes.old section (length (V.Value.encoding value.now))) section (V.Value.encoding value.now) }
+    ensures after { log_means K.DecodedKey.decoding K.Key.WIDTH bytes.new ≡ append_after (K.Key.WIDTH + 28) (log_means K.DecodedKey.decoding K.Key.WIDTH bytes.old) (log_space used K.Key.WIDTH bytes.old section (length (V.Value.encoding value.now))) section key.now next_section next_position (V.Value.encoding value.now) }
+    ensures good { IsLogGood K.Key.WIDTH bytes.new (either result used (used + row_len K.Key.WIDTH (length (V.Value.encoding value.now)))) }
 {
     let answer = place::<K, V>(bytes, used, section, value)?;
     let end = used + row_size::<K, V>(value);
@@ -46,23 +46,23 @@ fn restore_rows<K: DecodedKey>(
     section: u64,
     size: u64,
 ) -> Result<usize, JournalFault>
-    requires { IsLogGood K.Key.width bytes.old used }
-    ensures answer { result ≡ answered (restore_fault (K.Key.width + 28) (log_means K.DecodedKey.decoding K.Key.width bytes.old) section size) (log_end K.Key.width bytes.new) }
-    ensures after { log_means K.DecodedKey.decoding K.Key.width bytes.new ≡ restore_after (K.Key.width + 28) (log_means K.DecodedKey.decoding K.Key.width bytes.old) section size }
-    ensures good { IsLogGood K.Key.width bytes.new (either result used (log_end K.Key.width bytes.new)) }
+    requires { IsLogGood K.Key.WIDTH bytes.old used }
+    ensures answer { result ≡ answered (restore_fault (K.Key.WIDTH + 28) (log_means K.DecodedKey.decoding K.Key.WIDTH bytes.old) section size) (log_end K.Key.WIDTH bytes.new) }
+    ensures after { log_means K.DecodedKey.decoding K.Key.WIDTH bytes.new ≡ restore_after (K.Key.WIDTH + 28) (log_means K.DecodedKey.decoding K.Key.WIDTH bytes.old) section size }
+    ensures good { IsLogGood K.Key.WIDTH bytes.new (either result used (log_end K.Key.WIDTH bytes.new)) }
 {
     let end = restored_end::<K>(bytes, section, size)?;
-    zero_part(bytes, end, used);
+    fill_part(bytes, end, used, 0);
     Ok(end)
 }
 
 // Drops all rows.
 fn clear_rows<K: DecodedKey>(bytes: &mut [u8], used: usize)
-    requires { IsLogGood K.Key.width bytes.old used }
-    ensures after { log_means K.DecodedKey.decoding K.Key.width bytes.new ≡ apply (K.Key.width + 28) (log_means K.DecodedKey.decoding K.Key.width bytes.old) clear }
-    ensures good { IsLogGood K.Key.width bytes.new 0 }
+    requires { IsLogGood K.Key.WIDTH bytes.old used }
+    ensures after { log_means K.DecodedKey.decoding K.Key.WIDTH bytes.new ≡ apply (K.Key.WIDTH + 28) (log_means K.DecodedKey.decoding K.Key.WIDTH bytes.old) clear }
+    ensures good { IsLogGood K.Key.WIDTH bytes.new 0 }
 {
-    zero_part(bytes, 0, used);
+    fill_part(bytes, 0, used, 0);
 }
 
 // Its rows take the first `used` bytes.
@@ -77,14 +77,14 @@ impl<'a, K: Key> LogJournal<'a, K> {
     // Keeps the good rows at the front, and zeroes what stands behind them.
     pub fn open(bytes: &'a mut [u8]) -> LogJournal<'a, K>
         ensures same { result.bytes.ghost_name ≡ bytes.entry.ghost_name }
-        ensures bytes { result.bytes.now ≡ opened K.Key.width bytes.old }
-        ensures rows { rows_in K.Key.width result.bytes.now ≡ rows_in K.Key.width bytes.old }
-        ensures used { result.used ≡ log_end K.Key.width bytes.old }
-        ensures good { IsLogGood K.Key.width result.bytes.now result.used }
+        ensures bytes { result.bytes.now ≡ opened K.Key.WIDTH bytes.old }
+        ensures rows { rows_in K.Key.WIDTH result.bytes.now ≡ rows_in K.Key.WIDTH bytes.old }
+        ensures used { result.used ≡ log_end K.Key.WIDTH bytes.old }
+        ensures good { IsLogGood K.Key.WIDTH result.bytes.now result.used }
     {
         let used = end::<K>(bytes);
         let len = bytes.len();
-        zero_part(bytes, used, len);
+        fill_part(bytes, used, len, 0);
         LogJournal {
             bytes,
             used,
@@ -94,11 +94,11 @@ impl<'a, K: Key> LogJournal<'a, K> {
 }
 
 impl<'a, K: DecodedKey, V: Value> Journal<K, V> for LogJournal<'a, K> {
-    ghost means = { λ j. log_means K.DecodedKey.decoding K.Key.width j.bytes.now };
+    ghost means = { λ j. log_means K.DecodedKey.decoding K.Key.WIDTH j.bytes.now };
 
-    ghost good = { λ j. IsLogGood K.Key.width j.bytes.now j.used };
+    ghost good = { λ j. IsLogGood K.Key.WIDTH j.bytes.now j.used };
 
-    ghost space = { λ j section n. log_space j.used K.Key.width j.bytes.now section n };
+    ghost space = { λ j section n. log_space j.used K.Key.WIDTH j.bytes.now section n };
 
     ghost lent = { λ j. j.bytes.ghost_name ∷ [] };
 
@@ -140,7 +140,7 @@ impl<'a, K: DecodedKey, V: Value> Journal<K, V> for LogJournal<'a, K> {
     }
 
     fn size(&self, section: u64) -> u64 {
-        tally_of::<K>(self.bytes, section).rows * (K::wide() as u64 + 28)
+        tally_of::<K>(self.bytes, section).rows * (K::WIDTH as u64 + 28)
     }
 
     fn value_end(&self, section: u64) -> u64 {

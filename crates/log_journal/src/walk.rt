@@ -11,11 +11,11 @@ use journal::{Cursor, JournalFault, LogReader, Record, Step};
 
 // How many bytes the rows take. The bytes in front are theirs, and each is a row that could be written there.
 pub fn end<K: Key>(log: &[u8]) -> usize
-    ensures end { result ≡ log_end K.Key.width log.now }
-    ensures front { log.now ≡ log_bytes (rows_in K.Key.width log.now) ++ drop result log.now }
-    ensures rising { Rising K.Key.width 0 (rows_in K.Key.width log.now) }
+    ensures end { result ≡ log_end K.Key.WIDTH log.now }
+    ensures front { log.now ≡ log_bytes (rows_in K.Key.WIDTH log.now) ++ drop result log.now }
+    ensures rising { Rising K.Key.WIDTH 0 (rows_in K.Key.WIDTH log.now) }
 {
-    let width = K::wide();
+    let width = K::WIDTH;
     let mut end = 0;
     let mut reader = LogReader::<K>::new(log);
     while let Step::Row { value, .. } = reader.step() {
@@ -32,9 +32,9 @@ pub struct Tally {
 }
 
 pub fn tally_of<K: DecodedKey>(log: &[u8], section: u64) -> Tally
-    ensures rows { result.rows ≡ length ((log_means K.DecodedKey.decoding K.Key.width log.now).rows section) }
-    ensures bytes { result.bytes ≡ value_end (log_means K.DecodedKey.decoding K.Key.width log.now) section }
-    ensures within { result.rows * (K.Key.width + 28) + result.bytes ≤ length log.now }
+    ensures rows { result.rows ≡ length ((log_means K.DecodedKey.decoding K.Key.WIDTH log.now).rows section) }
+    ensures bytes { result.bytes ≡ value_end (log_means K.DecodedKey.decoding K.Key.WIDTH log.now) section }
+    ensures within { result.rows * (K.Key.WIDTH + 28) + result.bytes ≤ length log.now }
 {
     let mut rows = 0;
     let mut bytes = 0;
@@ -55,7 +55,7 @@ pub fn tally_of<K: DecodedKey>(log: &[u8], section: u64) -> Tally
 
 // The highest section with rows.
 pub fn highest<K: DecodedKey>(log: &[u8]) -> Option<u64>
-    ensures { result ≡ highest_answer (log_means K.DecodedKey.decoding K.Key.width log.now) }
+    ensures { result ≡ highest_answer (log_means K.DecodedKey.decoding K.Key.WIDTH log.now) }
 {
     let mut highest = None;
     let mut reader = LogReader::<K>::new(log);
@@ -67,7 +67,7 @@ pub fn highest<K: DecodedKey>(log: &[u8]) -> Option<u64>
 
 // The record at a position of a section.
 pub fn record_at<K: DecodedKey>(log: &[u8], section: u64, position: u64) -> Option<Record<K>>
-    ensures { result ≡ record_there ((log_means K.DecodedKey.decoding K.Key.width log.now).rows section) position (row_at ((log_means K.DecodedKey.decoding K.Key.width log.now).rows section) position) }
+    ensures { result ≡ record_there ((log_means K.DecodedKey.decoding K.Key.WIDTH log.now).rows section) position (row_at ((log_means K.DecodedKey.decoding K.Key.WIDTH log.now).rows section) position) }
 {
     let mut left = position;
     let mut offset = 0;
@@ -102,7 +102,7 @@ pub fn record_at<K: DecodedKey>(log: &[u8], section: u64, position: u64) -> Opti
 
 // The value at a cursor.
 pub fn value_at<K: DecodedKey, V: Value>(log: &[u8], cursor: Cursor) -> Result<V, JournalFault>
-    ensures { result ≡ value_answer V.Value.decoding (log_means K.DecodedKey.decoding K.Key.width log.now) cursor }
+    ensures { result ≡ value_answer V.Value.decoding (log_means K.DecodedKey.decoding K.Key.WIDTH log.now) cursor }
 {
     let mut offset = 0;
     let mut reader = LogReader::<K>::new(log);
@@ -131,9 +131,9 @@ fn read_value<V: Value>(value: &[u8], place: Cursor) -> Result<V, JournalFault>
 
 // Where the rows end that a restore keeps: those of earlier sections, and the first `rows` of a section.
 pub fn cut_end<K: Key>(log: &[u8], section: u64, rows: u64) -> usize
-    ensures { result ≡ length (log_bytes (cut section_in section rows (rows_in K.Key.width log.now))) }
+    ensures { result ≡ length (log_bytes (cut section_in section rows (rows_in K.Key.WIDTH log.now))) }
 {
-    let width = K::wide();
+    let width = K::WIDTH;
     let mut left = rows;
     let mut end = 0;
     let mut reader = LogReader::<K>::new(log);

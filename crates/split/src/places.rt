@@ -4,7 +4,7 @@ ghost use Rattle.split.specs.Directory.{Rising, before};
 ghost use Rattle.split.specs.Places.{first_bytes, has_place_lem, offset_of, offsets, size_of, sizes};
 
 use crate::section::Section;
-use codec::{take_u32, take_u64};
+use codec::Number;
 
 // Where the value of a row begins.
 fn offset_at(records: &[u8], width: usize, row: usize) -> u64
@@ -12,7 +12,7 @@ fn offset_at(records: &[u8], width: usize, row: usize) -> u64
     ensures { result ≡ offset_of width (drop (row * (width + 28)) records.now) }
 {
     let at = row * (width + 28) + width + 16;
-    take_u64(&records[at..at + 8])
+    u64::take(&records[at..at + 8])
 }
 
 // The size of its stored value.
@@ -21,7 +21,7 @@ fn size_at(records: &[u8], width: usize, row: usize) -> u32
     ensures { result ≡ size_of width (drop (row * (width + 28)) records.now) }
 {
     let at = row * (width + 28) + width + 24;
-    take_u32(&records[at..at + 4])
+    u32::take(&records[at..at + 4])
 }
 
 // How many rows begin before an offset, by halving.

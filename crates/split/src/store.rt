@@ -36,7 +36,7 @@ impl<'a, K: DecodedKey> SplitJournal<'a, K> {
         ensures values { result.values.now ≡ values.old }
         ensures directory { result.directory.now ≡ directory.old }
         ensures used { result.used ≡ 0 }
-        ensures good { IsSplitGood K.DecodedKey.decoding K.Key.width result.used result.directory.now result.records.now result.values.now K.Key.bytes }
+        ensures good { IsSplitGood K.DecodedKey.decoding K.Key.WIDTH result.used result.directory.now result.records.now result.values.now K.Key.bytes }
     {
         SplitJournal {
             records,
@@ -49,9 +49,9 @@ impl<'a, K: DecodedKey> SplitJournal<'a, K> {
 
     // Where a row with a value of so many bytes goes, or why it does not.
     fn place(&self, section: u64, len: usize) -> Result<Place, JournalFault>
-        requires good { IsSplitGood K.DecodedKey.decoding K.Key.width self.now.used self.now.directory.now self.now.records.now self.now.values.now K.Key.bytes }
+        requires good { IsSplitGood K.DecodedKey.decoding K.Key.WIDTH self.now.used self.now.directory.now self.now.records.now self.now.values.now K.Key.bytes }
         requires short { len ≤ 4096 }
-        ensures { result ≡ place_answer K.DecodedKey.decoding K.Key.width self.now.used self.now.directory.now self.now.records.now self.now.values.now section len }
+        ensures { result ≡ place_answer K.DecodedKey.decoding K.Key.WIDTH self.now.used self.now.directory.now self.now.records.now self.now.values.now section len }
     {
         let used = self.used;
         let directory = &self.directory[0..used];
@@ -66,7 +66,7 @@ impl<'a, K: DecodedKey> SplitJournal<'a, K> {
             values: self.values.len(),
             entry: has_entry(entry, used, self.directory.len()),
         };
-        let size = K::wide() + 28;
+        let size = K::WIDTH + 28;
         if !has_room(room, entry, rows, bytes, size, len + 4) {
             return Err(JournalFault::Full(section));
         }
@@ -81,14 +81,14 @@ impl<'a, K: DecodedKey> SplitJournal<'a, K> {
     // Where a restore to so many record bytes of a section cuts the directory, and the section's entry then; or why it is
     // refused.
     fn cut(&self, section: u64, bytes: u64) -> Result<Cut, JournalFault>
-        requires { IsSplitGood K.DecodedKey.decoding K.Key.width self.now.used self.now.directory.now self.now.records.now self.now.values.now K.Key.bytes }
-        ensures { result ≡ cut_answer K.DecodedKey.decoding K.Key.width self.now.used self.now.directory.now self.now.records.now self.now.values.now section bytes }
+        requires { IsSplitGood K.DecodedKey.decoding K.Key.WIDTH self.now.used self.now.directory.now self.now.records.now self.now.values.now K.Key.bytes }
+        ensures { result ≡ cut_answer K.DecodedKey.decoding K.Key.WIDTH self.now.used self.now.directory.now self.now.records.now self.now.values.now section bytes }
     {
         let used = self.used;
         let directory = &self.directory[0..used];
         let at = before(directory, section);
         let entry = entry_of(directory, section);
-        let width = K::wide();
+        let width = K::WIDTH;
         let size = (width + 28) as u64;
         if bytes > entry.rows * size || bytes % size != 0 {
             return Err(JournalFault::Restore(section));
@@ -106,11 +106,11 @@ impl<'a, K: DecodedKey> SplitJournal<'a, K> {
 }
 
 impl<'a, K: DecodedKey, V: Value> Journal<K, V> for SplitJournal<'a, K> {
-    ghost means = { λ j. split_means K.DecodedKey.decoding K.Key.width j.used j.directory.now j.records.now j.values.now };
+    ghost means = { λ j. split_means K.DecodedKey.decoding K.Key.WIDTH j.used j.directory.now j.records.now j.values.now };
 
-    ghost good = { λ j. IsSplitGood K.DecodedKey.decoding K.Key.width j.used j.directory.now j.records.now j.values.now K.Key.bytes };
+    ghost good = { λ j. IsSplitGood K.DecodedKey.decoding K.Key.WIDTH j.used j.directory.now j.records.now j.values.now K.Key.bytes };
 
-    ghost space = { λ j. split_space K.DecodedKey.decoding K.Key.width j.used j.directory.now j.records.now j.values.now };
+    ghost space = { λ j. split_space K.DecodedKey.decoding K.Key.WIDTH j.used j.directory.now j.records.now j.values.now };
 
     ghost lent = { λ j. j.records.ghost_name ∷ (j.values.ghost_name ∷ (j.directory.ghost_name ∷ [])) };
 
@@ -129,7 +129,7 @@ impl<'a, K: DecodedKey, V: Value> Journal<K, V> for SplitJournal<'a, K> {
             entry,
             rows,
             bytes,
-            K::wide() + 28,
+            K::WIDTH + 28,
             value.encode_size() + 4,
         )
     }
@@ -143,7 +143,7 @@ impl<'a, K: DecodedKey, V: Value> Journal<K, V> for SplitJournal<'a, K> {
         value: &V,
     ) -> Result<(u64, u64, u32), JournalFault> {
         let len = value.encode_size();
-        let size = K::wide() + 28;
+        let size = K::WIDTH + 28;
         let stored = len + 4;
         let place = self.place(section, len)?;
         let entry = place.entry;
@@ -175,7 +175,7 @@ impl<'a, K: DecodedKey, V: Value> Journal<K, V> for SplitJournal<'a, K> {
         if position >= entry.rows {
             return Err(JournalFault::NoRow(section, position));
         }
-        let size = K::wide() + 28;
+        let size = K::WIDTH + 28;
         let at = (entry.first_row + position) as usize * size;
         Ok(Record::decode(&self.records[at..at + size]))
     }
@@ -183,7 +183,7 @@ impl<'a, K: DecodedKey, V: Value> Journal<K, V> for SplitJournal<'a, K> {
     fn value(&self, cursor: Cursor) -> Result<V, JournalFault> {
         let used = self.used;
         let entry = entry_of(&self.directory[0..used], cursor.section);
-        let width = K::wide();
+        let width = K::WIDTH;
         let first = entry.first_row as usize * (width + 28);
         let rows = entry.rows as usize;
         let records = &self.records[first..first + rows * (width + 28)];
@@ -198,7 +198,7 @@ impl<'a, K: DecodedKey, V: Value> Journal<K, V> for SplitJournal<'a, K> {
     fn size(&self, section: u64) -> u64 {
         let used = self.used;
         let entry = entry_of(&self.directory[0..used], section);
-        entry.rows * (K::wide() + 28) as u64
+        entry.rows * (K::WIDTH + 28) as u64
     }
 
     fn value_end(&self, section: u64) -> u64 {

@@ -5,14 +5,7 @@ ghost use Rattle.table.specs.Lent.{IsByteGood, byte_means, byte_most, making_che
 use crate::entry::Entry;
 use crate::fault::TableFault;
 use crate::store::Table;
-
-// Zeroes the bytes from `from` to `to`.
-fn zero_part(bytes: &mut [u8], from: usize, to: usize)
-    requires { (from ≤ to) × (to ≤ length bytes.old) }
-    ensures { bytes.new ≡ take from bytes.old ++ (replicate (to - from) 0 ++ drop to bytes.old) }
-{
-    bytes[from..to].fill(0);
-}
+use codec::fill_part;
 
 #[derive(Drop)]
 pub struct ByteTable<'a> {
@@ -86,7 +79,7 @@ impl<'a> Table for ByteTable<'a> {
         let count = count as usize;
         let entries = self.entries;
         if count > entries {
-            zero_part(self.bytes, 29 * entries, 29 * count);
+            fill_part(self.bytes, 29 * entries, 29 * count, 0);
         }
         self.entries = count;
         Ok(())

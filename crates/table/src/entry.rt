@@ -5,7 +5,7 @@ ghost use Rattle.codec.specs.Bytes.{be};
 ghost use Rattle.crc32c.specs.Crc.{register};
 ghost use Rattle.table.specs.Entries.{checks, empty, entry, entry_bytes, entry_check, entry_read, failing, is_empty, whole};
 
-use codec::{put_u8, put_u32, put_u64, take_u8, take_u32, take_u64};
+use codec::Number;
 use crc32c::{START, finish, update};
 
 #[derive(Clone, Copy, PartialEq, Eq)]
@@ -99,11 +99,11 @@ impl Entry {
         ensures written { out.new ≡ entry_bytes self.now }
         ensures back { entry_read out.new ≡ self.now }
     {
-        put_u64(&mut out[0..8], self.epoch);
-        put_u64(&mut out[8..16], self.section);
-        put_u64(&mut out[16..24], self.position);
-        put_u8(&mut out[24..25], self.added);
-        put_u32(&mut out[25..29], self.crc);
+        self.epoch.put(&mut out[0..8]);
+        self.section.put(&mut out[8..16]);
+        self.position.put(&mut out[16..24]);
+        self.added.put(&mut out[24..25]);
+        self.crc.put(&mut out[25..29]);
     }
 
     pub fn decode(from: &[u8]) -> Entry
@@ -112,11 +112,11 @@ impl Entry {
         ensures back { entry_bytes result ≡ from.now }
     {
         Entry {
-            epoch: take_u64(&from[0..8]),
-            section: take_u64(&from[8..16]),
-            position: take_u64(&from[16..24]),
-            added: take_u8(&from[24..25]),
-            crc: take_u32(&from[25..29]),
+            epoch: u64::take(&from[0..8]),
+            section: u64::take(&from[8..16]),
+            position: u64::take(&from[16..24]),
+            added: u8::take(&from[24..25]),
+            crc: u32::take(&from[25..29]),
         }
     }
 }

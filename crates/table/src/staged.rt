@@ -6,14 +6,7 @@ ghost use Rattle.table.specs.Lent.{making_check, IsStagedGood, staged_means, sta
 use crate::entry::{EMPTY, Entry};
 use crate::fault::TableFault;
 use crate::store::Table;
-
-// Empties the entries from `from` to `to`.
-fn empty_part(entries: &mut [Entry], from: usize, to: usize)
-    requires { (from ≤ to) × (to ≤ length entries.old) }
-    ensures { entries.new ≡ take from entries.old ++ (replicate (to - from) empty ++ drop to entries.old) }
-{
-    entries[from..to].fill(EMPTY);
-}
+use codec::fill_part;
 
 #[derive(Drop)]
 pub struct StagedTable<'a> {
@@ -94,7 +87,7 @@ impl<'a> Table for StagedTable<'a> {
         let count = count as usize;
         let len = self.len;
         if count > len {
-            empty_part(self.working, len, count);
+            fill_part(self.working, len, count, EMPTY);
         }
         self.len = count;
         Ok(())
@@ -102,6 +95,7 @@ impl<'a> Table for StagedTable<'a> {
 
     fn sync(&mut self) {
         let len = self.len;
+        // Not `copy_from_slice`: no rule covers one field behind `&mut self` that is read while its neighbour is lent.
         for i in 0..len {
             self.durable[i] = self.working[i];
         }

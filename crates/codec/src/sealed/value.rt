@@ -41,7 +41,7 @@ impl Sealed {
 impl Value for Sealed {
     const MOST: usize = SEALED_MOST;
 
-    ghost most = { sealed_most };
+    ghost MOST = { sealed_most };
 
     ghost encoding = { sealed_bytes };
 
@@ -56,10 +56,6 @@ impl Value for Sealed {
     ghost decodes = { λ v. sealed_made v _ _ refl refl };
 
     ghost accepted = { λ bs v u e. sealed_back v bs _ refl e };
-
-    fn bound() -> usize {
-        Self::MOST
-    }
 
     fn encode_size(&self) -> usize {
         self.len

@@ -7,7 +7,7 @@ ghost use Rattle.codec.specs.WindowOf.{window_made, first_fits, end_fits, window
 ghost use Rattle.std.proofs.Common.{rules};
 
 use super::Window;
-use crate::bytes::{put_u64, take_u64};
+use crate::bytes::Number;
 use crate::fault::KindFault;
 use crate::value::Value;
 
@@ -47,7 +47,7 @@ impl Window {
 impl Value for Window {
     const MOST: usize = 16;
 
-    ghost most = { 16 };
+    ghost MOST = { 16 };
 
     ghost encoding = { window_bytes };
 
@@ -63,17 +63,14 @@ impl Value for Window {
 
     ghost accepted = { window_back };
 
-    fn bound() -> usize {
-        Self::MOST
-    }
-
     fn encode_size(&self) -> usize {
         Self::MOST
     }
 
     fn encode(&self, out: &mut [u8]) -> usize {
-        put_u64(&mut out[0..8], self.first);
-        put_u64(&mut out[8..16], self.end);
+        let Window { first, end } = *self;
+        first.put(&mut out[0..8]);
+        end.put(&mut out[8..16]);
         Self::MOST
     }
 
@@ -81,8 +78,8 @@ impl Value for Window {
         if from.len() != 16 {
             return None;
         }
-        let first = take_u64(&from[0..8]);
-        let end = take_u64(&from[8..16]);
+        let first = u64::take(&from[0..8]);
+        let end = u64::take(&from[8..16]);
         if first < end {
             Some(Window { first, end })
         } else {

@@ -6,9 +6,9 @@ pub returns : goal.returns
 returns g c =
     let j = g.J.Journal.means c.args.journal.now in
     let s = c.args.section in
-    let rows : c.size.result / (c.wide.result + 28) ≡ length (j.rows s) = ap (λ (w : ℕ). c.size.result / (w + 28)) c.wide.ensures ∙ whole_count (g.K.Key.width + 28) (omega arith) j s c.size.result c.size.ensures in
+    let rows : c.size.result / (c.WIDTH.result + 28) ≡ length (j.rows s) = ap (λ (w : ℕ). c.size.result / (w + 28)) c.WIDTH.ensures ∙ whole_count (g.K.Key.WIDTH + 28) (omega arith) j s c.size.result c.size.ensures in
     record {
       rows = rows;
-      counted = ap (λ (n : ℕ). n * (g.K.Key.width + 28)) rows;
+      counted = ap (λ (n : ℕ). n * (g.K.Key.WIDTH + 28)) rows;
       reached = λ p. reached s p (j.rows s) (j.rows s) p ∙ ap (ltb p) (sym rows);
     }

@@ -13,7 +13,7 @@ returns-then-len-lt4 g c = record { answer = search rules; back = λ v e. no_val
 
 pub returns-then-own-check : goal.returns-then-own-check
 returns-then-own-check g c = record {
-  answer = reads_wrong g.V.Value.decoding c.args.place c.args.stored.now (omega arith) c.checksum-own.result c.take_u32-check.result c.checksum-own.ensures c.take_u32-check.ensures.value c.if-own-check.true;
+  answer = reads_wrong g.V.Value.decoding c.args.place c.args.stored.now (omega arith) c.checksum-own.result c.take-check.result c.checksum-own.ensures c.take-check.ensures.value c.if-own-check.true;
   back = λ v e. no_value _ v e;
 }
 
@@ -21,15 +21,15 @@ pub returns-in-Some : goal.returns-in-Some
 returns-in-Some g c =
     let stored = c.args.stored.now in
     record {
-      answer = reads_right g.V.Value.decoding c.args.place stored (omega arith) c.checksum-own.result c.take_u32-check.result c.checksum-own.ensures c.take_u32-check.ensures.value c.if-own-check.false (Some c.in-Some.value) c.in-Some.ensures;
+      answer = reads_right g.V.Value.decoding c.args.place stored (omega arith) c.checksum-own.result c.take-check.result c.checksum-own.ensures c.take-check.ensures.value c.if-own-check.false (Some c.in-Some.value) c.in-Some.ensures;
       back = λ v e.
           let same : c.in-Some.value ≡ v = cc in
           let read = g.met.V.Value.accepted _ c.in-Some.value (under_take _ stored (under_of stored (λ i. (c.type_inv.stored i).fits))) (sym c.in-Some.ensures) in
-          reads_back g.V.Value.decoding c.args.place stored (omega arith) c.checksum-own.result c.take_u32-check.result c.checksum-own.ensures c.take_u32-check.ensures.value c.take_u32-check.ensures.back c.if-own-check.false (g.V.Value.encoding v) (ap g.V.Value.encoding (sym same) ∙ read);
+          reads_back g.V.Value.decoding c.args.place stored (omega arith) c.checksum-own.result c.take-check.result c.checksum-own.ensures c.take-check.ensures.value c.take-check.ensures.back c.if-own-check.false (g.V.Value.encoding v) (ap g.V.Value.encoding (sym same) ∙ read);
     }
 
 pub returns-in-None : goal.returns-in-None
 returns-in-None g c = record {
-  answer = reads_right g.V.Value.decoding c.args.place c.args.stored.now (omega arith) c.checksum-own.result c.take_u32-check.result c.checksum-own.ensures c.take_u32-check.ensures.value c.if-own-check.false None c.in-None.ensures;
+  answer = reads_right g.V.Value.decoding c.args.place c.args.stored.now (omega arith) c.checksum-own.result c.take-check.result c.checksum-own.ensures c.take-check.ensures.value c.if-own-check.false None c.in-None.ensures;
   back = λ v e. no_value _ v e;
 }

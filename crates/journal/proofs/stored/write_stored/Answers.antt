@@ -18,6 +18,6 @@ returns g c =
     let filled : c.encode.new.out ≡ vb = whole c.encode.new.out vb _ fit c.encode.ensures.written in
     let s1 = piece 0 (n - 0) n [] out out _ vb refl (omega arith) (omega arith) refl filled in
     let check : c.checksum-check.result ≡ crc vb = c.checksum-check.ensures ∙ ap crc (middle 0 (n - 0) n [] vb out _ refl (omega arith) s1) in
-    let s2 = piece n (n + 4 - n) (n + 4) vb out _ _ (be 4 (crc vb)) vw (omega arith) (omega arith) s1 (c.put_u32.ensures.written ∙ ap (be 4) check) in
+    let s2 = piece n (n + 4 - n) (n + 4) vb out _ _ (be 4 (crc vb)) vw (omega arith) (omega arith) s1 (c.put.ensures.written ∙ ap (be 4) check) in
     let written = s2 ∙ ended (n + 4) (vb ++ be 4 (crc vb)) out (omega (arith, c.requires)) in
     record { written = written; back = λ p. ap (λ (bs : List ℕ). value_there g.V.Value.decoding p (Some bs)) written ∙ there_stored g.V.Value.decoding vb v (g.met.V.Value.octets v) (g.met.V.Value.decodes v) p }

@@ -10,7 +10,7 @@ returns-then-row_size-free g c =
     let enc = g.V.Value.encoding c.args.value.now in
     let t = c.args.tally in
     let stored : c.encode_size.result + 4 ≡ length (stored_of enc) = omega (arith, c.encode_size.ensures, length_stored enc) in
-    let room = le-leb (row_len g.K.Key.width (length enc)) c.args.free (omega (arith, c.row_size.ensures)) in
+    let room = le-leb (row_len g.K.Key.WIDTH (length enc)) c.args.free (omega (arith, c.row_size.ensures)) in
     c.in_bounds.ensures
-    ∙ (λ i. leb (suc t.rows * (c.wide.ensures i + 28)) (2 ^ 63) && leb (t.bytes + stored i) (2 ^ 63))
-    ∙ ap (λ b. b && (leb (suc t.rows * (g.K.Key.width + 28)) (2 ^ 63) && leb (t.bytes + length (stored_of enc)) (2 ^ 63))) (sym room)
+    ∙ (λ i. leb (suc t.rows * (c.WIDTH.ensures i + 28)) (2 ^ 63) && leb (t.bytes + stored i) (2 ^ 63))
+    ∙ ap (λ b. b && (leb (suc t.rows * (g.K.Key.WIDTH + 28)) (2 ^ 63) && leb (t.bytes + length (stored_of enc)) (2 ^ 63))) (sym room)

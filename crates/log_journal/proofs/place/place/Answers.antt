@@ -10,7 +10,7 @@ use Rattle.log_journal.proofs.place.place.Goals as goal
 
 pub returns : goal.returns
 returns g c =
-    let w = g.K.Key.width in
+    let w = g.K.Key.WIDTH in
     let log = c.args.log.now in
     let used = c.args.used in
     let s = c.args.section in

@@ -12,7 +12,7 @@ use Rattle.log_journal.proofs.store.append_row.Goals as goal
 
 pub returns : goal.returns
 returns g c =
-    let w = g.K.Key.width in
+    let w = g.K.Key.WIDTH in
     let d = g.K.DecodedKey.decoding in
     let bs = c.args.bytes.now in
     let used = c.args.used in

@@ -7,11 +7,11 @@ use Rattle.log_journal.proofs.store.clear_rows.Goals as goal
 
 pub returns : goal.returns
 returns g c =
-    let w = g.K.Key.width in
+    let w = g.K.Key.WIDTH in
     let d = g.K.DecodedKey.decoding in
     let bs = c.args.bytes.now in
-    let new = c.zero_part.new.bytes in
+    let new = c.fill_part.new.items in
     record {
-      after = ap (flat_means section_in (kept_row d)) (keep_rows d w c.args.used bs c.requires [] (rows_in w bs) refl new c.zero_part.ensures) ∙ flat_clear section_in (kept_row d) (w + 28) (rows_in w bs);
-      good = keep_good d w c.args.used bs c.requires [] (rows_in w bs) refl new c.zero_part.ensures;
+      after = ap (flat_means section_in (kept_row d)) (keep_rows d w c.args.used bs c.requires [] (rows_in w bs) refl new c.fill_part.ensures) ∙ flat_clear section_in (kept_row d) (w + 28) (rows_in w bs);
+      good = keep_good d w c.args.used bs c.requires [] (rows_in w bs) refl new c.fill_part.ensures;
     }

@@ -10,9 +10,9 @@ use Rattle.journal.proofs.Tells.{answered_ok}
 use Rattle.log_journal.proofs.Filled.{rising_ordered, used_within}
 use Rattle.log_journal.proofs.store.restore_rows.Goals as goal
 
-pub zero_part-requires : goal.zero_part-requires
-zero_part-requires g c =
-    let w = g.K.Key.width in
+pub fill_part-requires : goal.fill_part-requires
+fill_part-requires g c =
+    let w = g.K.Key.WIDTH in
     let d = g.K.DecodedKey.decoding in
     let bs = c.args.bytes.now in
     let n = c.args.size / (w + 28) in
@@ -23,7 +23,7 @@ zero_part-requires g c =
 
 pub returns : goal.returns
 returns g c =
-    let w = g.K.Key.width in
+    let w = g.K.Key.WIDTH in
     let d = g.K.DecodedKey.decoding in
     let bs = c.args.bytes.now in
     let used = c.args.used in
@@ -35,8 +35,8 @@ returns g c =
     let front = cut_front section_in s n rs in
     let fault = restore_fault (w + 28) j s c.args.size in
     let told = answered_ok fault (length (log_bytes keep)) c.in_ok-end.end c.in_ok-end.ensures in
-    let new = c.zero_part.new.bytes in
-    let is : new ≡ take (length (log_bytes keep)) bs ++ (replicate (used - length (log_bytes keep)) 0 ++ drop used bs) = c.zero_part.ensures ∙ ap (λ (e : ℕ). take e bs ++ (replicate (used - e) 0 ++ drop used bs)) told.1 in
+    let new = c.fill_part.new.items in
+    let is : new ≡ take (length (log_bytes keep)) bs ++ (replicate (used - length (log_bytes keep)) 0 ++ drop used bs) = c.fill_part.ensures ∙ ap (λ (e : ℕ). take e bs ++ (replicate (used - e) 0 ++ drop used bs)) told.1 in
     let rows : rows_in w new ≡ keep = keep_rows d w used bs c.requires keep front.0 front.1 new is in
     let end : length (log_bytes keep) ≡ log_end w new = ap (λ xs. length (log_bytes xs)) (sym rows) in
     record {

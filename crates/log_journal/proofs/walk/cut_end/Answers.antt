@@ -9,7 +9,7 @@ use Rattle.log_journal.proofs.walk.cut_end.Goals as goal
 
 pub returns-in-None : goal.returns-in-None
 returns-in-None g c =
-    let w = g.K.Key.width in
+    let w = g.K.Key.WIDTH in
     let log = c.args.log.now in
     let inv = c.loop-own.invariant in
     let a = c.in-Row in
@@ -27,11 +27,11 @@ loop-own-smaller g c =
     let a = c.in-Row in
     let h = a.ensures in
     let r = log_row a.own a.key.now a.next_section a.next_position a.value.now in
-    next_less g.K.Key.width c.args.log.now c.loop-own.reader c.loop-own.invariant.0 c.step.new.self a.at r h.shown h.at h.log
+    next_less g.K.Key.WIDTH c.args.log.now c.loop-own.reader c.loop-own.invariant.0 c.step.new.self a.at r h.shown h.at h.log
 
 pub loop-own-preserved : goal.loop-own-preserved
 loop-own-preserved g c =
-    let w = g.K.Key.width in
+    let w = g.K.Key.WIDTH in
     let log = c.args.log.now in
     let was = c.loop-own.reader in
     let is = c.step.new.self in
@@ -47,12 +47,12 @@ loop-own-preserved g c =
     let more = ap (cut section_in s n) rows ∙ cut_is s n r (left_in w log is) ∙ ap (kept_by s r (left_in w log is)) (sym c.in-Some.ensures) in
     let long = ap (λ rs. length (log_bytes rs)) more in
     let first = length_first w r (cut section_in s m (left_in w log is)) h.key in
-    let wide = c.wide-width.ensures in
+    let wide = c.WIDTH-width.ensures in
     let end = inv.1 in
     let sum = inv.2 in
     (h.log ∙ inv.0, omega arith, omega arith)
 
 pub returns : goal.returns
 returns g c =
-    let none = no_rows g.K.Key.width c.args.log.now c.loop-own.reader c.loop-own.invariant.0 c.step.result c.step.ensures.shown c.in_default.not-Row in
+    let none = no_rows g.K.Key.WIDTH c.args.log.now c.loop-own.reader c.loop-own.invariant.0 c.step.result c.step.ensures.shown c.in_default.not-Row in
     omega (arith, c.loop-own.invariant.2, ap (λ rs. length (log_bytes (cut section_in c.args.section c.loop-own.left rs))) none)

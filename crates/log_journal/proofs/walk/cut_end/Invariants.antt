@@ -9,7 +9,7 @@ abbrev pub invariant-loop-own : goal.invariant-loop-own
 invariant-loop-own g l =
     (l.reader.log.now ≡ l.log)
     × (l.end ≡ l.reader.at)
-    × (l.end + length (log_bytes (cut section_in l.section l.left (left_in g.K.Key.width l.log l.reader))) ≡ length (log_bytes (cut section_in l.section l.rows (rows_in g.K.Key.width l.log))))
+    × (l.end + length (log_bytes (cut section_in l.section l.left (left_in g.K.Key.WIDTH l.log l.reader))) ≡ length (log_bytes (cut section_in l.section l.rows (rows_in g.K.Key.WIDTH l.log))))
 
 abbrev pub decreases-loop-own : goal.decreases-loop-own
 decreases-loop-own g l = length l.log - l.reader.at

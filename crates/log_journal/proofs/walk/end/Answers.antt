@@ -9,7 +9,7 @@ use Rattle.log_journal.proofs.walk.end.Goals as goal
 
 pub loop-value-preserved : goal.loop-value-preserved
 loop-value-preserved g c =
-    let w = g.K.Key.width in
+    let w = g.K.Key.WIDTH in
     let log = c.args.log.now in
     let was = c.loop-value.reader in
     let is = c.step.new.self in
@@ -21,11 +21,11 @@ loop-value-preserved g c =
     let rows = next_rows w log was inv.0 is a.at r h.shown h.at h.last in
     let long = ap (λ rs. length (log_bytes rs)) rows in
     let first = length_first w r (left_in w log is) h.key in
-    (h.log ∙ inv.0, omega (arith, c.wide-width.ensures), omega (arith, c.wide-width.ensures))
+    (h.log ∙ inv.0, omega (arith, c.WIDTH-width.ensures), omega (arith, c.WIDTH-width.ensures))
 
 pub returns : goal.returns
 returns g c =
-    let w = g.K.Key.width in
+    let w = g.K.Key.WIDTH in
     let log = c.args.log.now in
     let none = no_rows w log c.loop-value.reader c.loop-value.invariant.0 c.step.result c.step.ensures.shown c.in_default.not-Row in
     let end : c.loop-value.end ≡ log_end w log = omega (arith, c.loop-value.invariant.2, ap (λ rs. length (log_bytes rs)) none) in

@@ -8,7 +8,7 @@ abbrev pub invariant-loop-value : goal.invariant-loop-value
 invariant-loop-value g l =
     (l.reader.log.now ≡ l.log)
     × (l.end ≡ l.reader.at)
-    × (l.end + length (log_bytes (left_in g.K.Key.width l.log l.reader)) ≡ log_end g.K.Key.width l.log)
+    × (l.end + length (log_bytes (left_in g.K.Key.WIDTH l.log l.reader)) ≡ log_end g.K.Key.WIDTH l.log)
 
 abbrev pub decreases-loop-value : goal.decreases-loop-value
 decreases-loop-value g l = length l.log - l.reader.at

@@ -9,7 +9,7 @@ use Rattle.log_journal.proofs.walk.record_at.Goals as goal
 
 pub loop-own-preserved-then-own-section : goal.loop-own-preserved-then-own-section
 loop-own-preserved-then-own-section g c =
-    let w = g.K.Key.width in
+    let w = g.K.Key.WIDTH in
     let d = g.K.DecodedKey.decoding in
     let log = c.args.log.now in
     let was = c.loop-own.reader in
@@ -29,12 +29,12 @@ pub overflow_cast-result : goal.overflow_cast-result
 overflow_cast-result g c =
     let a = c.in-Row in
     let r = log_row a.own a.key.now a.next_section a.next_position a.value.now in
-    let sound = next_sound g.K.Key.width c.args.log.now c.loop-own.reader c.loop-own.invariant.0 c.step.new.self a.at r a.ensures.shown (λ i. (c.type_inv.log i).fits) in
+    let sound = next_sound g.K.Key.WIDTH c.args.log.now c.loop-own.reader c.loop-own.invariant.0 c.step.new.self a.at r a.ensures.shown (λ i. (c.type_inv.log i).fits) in
     record { fits = omega (arith, sound.0.value_most) }
 
 pub returns-then-left-eq0 : goal.returns-then-left-eq0
 returns-then-left-eq0 g c =
-    let w = g.K.Key.width in
+    let w = g.K.Key.WIDTH in
     let d = g.K.DecodedKey.decoding in
     let log = c.args.log.now in
     let was = c.loop-own.reader in
@@ -57,7 +57,7 @@ returns-then-left-eq0 g c =
 
 pub loop-own-preserved : goal.loop-own-preserved
 loop-own-preserved g c =
-    let w = g.K.Key.width in
+    let w = g.K.Key.WIDTH in
     let d = g.K.DecodedKey.decoding in
     let log = c.args.log.now in
     let was = c.loop-own.reader in
@@ -81,5 +81,5 @@ returns g c =
     let inv = c.loop-own.invariant in
     let d = g.K.DecodedKey.decoding in
     let s = c.args.section in
-    let none = no_rows g.K.Key.width c.args.log.now c.loop-own.reader inv.0 c.step.result c.step.ensures.shown c.in_default.not-Row in
-    sym (ap (λ rs. record_from c.loop-own.offset (rows_of section_in (kept_row d) s rs) c.loop-own.left) none) ∙ inv.2 ∙ record_is (rows_of section_in (kept_row d) s (rows_in g.K.Key.width c.args.log.now)) c.args.position
+    let none = no_rows g.K.Key.WIDTH c.args.log.now c.loop-own.reader inv.0 c.step.result c.step.ensures.shown c.in_default.not-Row in
+    sym (ap (λ rs. record_from c.loop-own.offset (rows_of section_in (kept_row d) s rs) c.loop-own.left) none) ∙ inv.2 ∙ record_is (rows_of section_in (kept_row d) s (rows_in g.K.Key.WIDTH c.args.log.now)) c.args.position

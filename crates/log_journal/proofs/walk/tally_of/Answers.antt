@@ -10,7 +10,7 @@ use Rattle.log_journal.proofs.walk.tally_of.Goals as goal
 
 pub loop-own-preserved-then-own-section : goal.loop-own-preserved-then-own-section
 loop-own-preserved-then-own-section g c =
-    let w = g.K.Key.width in
+    let w = g.K.Key.WIDTH in
     let d = g.K.DecodedKey.decoding in
     let log = c.args.log.now in
     let was = c.loop-own.reader in
@@ -31,7 +31,7 @@ loop-own-preserved-then-own-section g c =
 
 pub loop-own-preserved : goal.loop-own-preserved
 loop-own-preserved g c =
-    let w = g.K.Key.width in
+    let w = g.K.Key.WIDTH in
     let d = g.K.DecodedKey.decoding in
     let log = c.args.log.now in
     let was = c.loop-own.reader in
@@ -51,7 +51,7 @@ loop-own-preserved g c =
 pub returns : goal.returns
 returns g c =
     let inv = c.loop-own.invariant in
-    let none = no_rows g.K.Key.width c.args.log.now c.loop-own.reader inv.0 c.step.result c.step.ensures.shown c.in_default.not-Row in
+    let none = no_rows g.K.Key.WIDTH c.args.log.now c.loop-own.reader inv.0 c.step.result c.step.ensures.shown c.in_default.not-Row in
     let here = ap (rows_of section_in (kept_row g.K.DecodedKey.decoding) c.args.section) none in
     record {
       rows = omega (arith, ap length here);

@@ -8,9 +8,9 @@ use Rattle.log_journal.proofs.walk.tally_of.Given as goal
 abbrev pub invariant-loop-own : goal.invariant-loop-own
 invariant-loop-own g l =
     (l.reader.log.now ≡ l.log)
-    × (l.rows + length (rows_of section_in (kept_row g.K.DecodedKey.decoding) l.section (left_in g.K.Key.width l.log l.reader)) ≡ length (rows_of section_in (kept_row g.K.DecodedKey.decoding) l.section (rows_in g.K.Key.width l.log)))
-    × (l.bytes + stored_bytes (rows_of section_in (kept_row g.K.DecodedKey.decoding) l.section (left_in g.K.Key.width l.log l.reader)) ≡ stored_bytes (rows_of section_in (kept_row g.K.DecodedKey.decoding) l.section (rows_in g.K.Key.width l.log)))
-    × (l.rows * (g.K.Key.width + 28) + l.bytes ≤ l.reader.at)
+    × (l.rows + length (rows_of section_in (kept_row g.K.DecodedKey.decoding) l.section (left_in g.K.Key.WIDTH l.log l.reader)) ≡ length (rows_of section_in (kept_row g.K.DecodedKey.decoding) l.section (rows_in g.K.Key.WIDTH l.log)))
+    × (l.bytes + stored_bytes (rows_of section_in (kept_row g.K.DecodedKey.decoding) l.section (left_in g.K.Key.WIDTH l.log l.reader)) ≡ stored_bytes (rows_of section_in (kept_row g.K.DecodedKey.decoding) l.section (rows_in g.K.Key.WIDTH l.log)))
+    × (l.rows * (g.K.Key.WIDTH + 28) + l.bytes ≤ l.reader.at)
     × (l.rows ≤ l.reader.at)
 
 abbrev pub decreases-loop-own : goal.decreases-loop-own

@@ -11,7 +11,7 @@ use Rattle.log_journal.proofs.walk.value_at.Goals.{else-offset-cursor-via-then-o
 
 pub loop-section-preserved-then-section-cursor : goal.loop-section-preserved-then-section-cursor
 loop-section-preserved-then-section-cursor g c =
-    let w = g.K.Key.width in
+    let w = g.K.Key.WIDTH in
     let d = g.K.DecodedKey.decoding in
     let log = c.args.log.now in
     let was = c.loop-section.reader in
@@ -29,7 +29,7 @@ loop-section-preserved-then-section-cursor g c =
 
 pub returns-then-size-cursor : goal.returns-then-size-cursor
 returns-then-size-cursor g c =
-    let w = g.K.Key.width in
+    let w = g.K.Key.WIDTH in
     let d = g.K.DecodedKey.decoding in
     let log = c.args.log.now in
     let was = c.loop-section.reader in
@@ -52,11 +52,11 @@ loop-section-smaller g c =
     let a = c.in-Row in
     let h = a.ensures in
     let r = log_row a.section a.key.now a.next_section a.next_position a.value.now in
-    next_less g.K.Key.width c.args.log.now c.loop-section.reader c.loop-section.invariant.0 c.step.new.self a.at r h.shown h.at h.log
+    next_less g.K.Key.WIDTH c.args.log.now c.loop-section.reader c.loop-section.invariant.0 c.step.new.self a.at r h.shown h.at h.log
 
 pub loop-section-preserved : goal.loop-section-preserved
 loop-section-preserved g c =
-    let w = g.K.Key.width in
+    let w = g.K.Key.WIDTH in
     let d = g.K.DecodedKey.decoding in
     let log = c.args.log.now in
     let was = c.loop-section.reader in
@@ -85,6 +85,6 @@ pub returns : goal.returns
 returns g c =
     let inv = c.loop-section.invariant in
     let p = c.args.cursor in
-    let none = no_rows g.K.Key.width c.args.log.now c.loop-section.reader inv.0 c.step.result c.step.ensures.shown c.in_default.not-Row in
+    let none = no_rows g.K.Key.WIDTH c.args.log.now c.loop-section.reader inv.0 c.step.result c.step.ensures.shown c.in_default.not-Row in
     let found = sym (ap (λ rs. stored_at c.loop-section.offset (rows_of section_in (kept_row g.K.DecodedKey.decoding) p.section rs) p.offset p.size) none) ∙ inv.2 in
     ap (value_there g.V.Value.decoding p) found

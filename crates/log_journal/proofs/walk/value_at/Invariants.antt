@@ -9,7 +9,7 @@ abbrev pub invariant-loop-section : goal.invariant-loop-section
 invariant-loop-section g l =
     (l.reader.log.now ≡ l.log)
     × (l.offset ≤ l.reader.at)
-    × (stored_at l.offset (rows_of section_in (kept_row g.K.DecodedKey.decoding) l.cursor.section (left_in g.K.Key.width l.log l.reader)) l.cursor.offset l.cursor.size ≡ stored_at 0 (rows_of section_in (kept_row g.K.DecodedKey.decoding) l.cursor.section (rows_in g.K.Key.width l.log)) l.cursor.offset l.cursor.size)
+    × (stored_at l.offset (rows_of section_in (kept_row g.K.DecodedKey.decoding) l.cursor.section (left_in g.K.Key.WIDTH l.log l.reader)) l.cursor.offset l.cursor.size ≡ stored_at 0 (rows_of section_in (kept_row g.K.DecodedKey.decoding) l.cursor.section (rows_in g.K.Key.WIDTH l.log)) l.cursor.offset l.cursor.size)
 
 abbrev pub decreases-loop-section : goal.decreases-loop-section
 decreases-loop-section g l = length l.log - l.reader.at

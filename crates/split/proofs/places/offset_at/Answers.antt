@@ -7,4 +7,4 @@ pub returns : goal.returns
 returns c =
     let w = c.args.width in
     let k = c.args.row * (w + 28) in
-    c.take_u64.ensures.value ∙ ap number (part_of_part (w + 16) (k + w + 16 + 8 - (k + w + 16)) k (k + w + 16) (w + 24 - (w + 16)) c.args.records.now (omega arith) (omega arith))
+    c.take.ensures.value ∙ ap number (part_of_part (w + 16) (k + w + 16 + 8 - (k + w + 16)) k (k + w + 16) (w + 24 - (w + 16)) c.args.records.now (omega arith) (omega arith))

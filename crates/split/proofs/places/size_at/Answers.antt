@@ -7,4 +7,4 @@ pub returns : goal.returns
 returns c =
     let w = c.args.width in
     let k = c.args.row * (w + 28) in
-    c.take_u32.ensures.value ∙ ap number (part_of_part (w + 24) (k + w + 24 + 4 - (k + w + 24)) k (k + w + 24) (w + 28 - (w + 24)) c.args.records.now (omega arith) (omega arith))
+    c.take.ensures.value ∙ ap number (part_of_part (w + 24) (k + w + 24 + 4 - (k + w + 24)) k (k + w + 24) (w + 28 - (w + 24)) c.args.records.now (omega arith) (omega arith))

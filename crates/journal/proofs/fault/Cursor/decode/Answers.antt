@@ -8,5 +8,5 @@ returns c =
     let bs = c.args.from.now in
     record {
       value = search rules;
-      back = joined_on 16 4 20 bs _ _ refl (joined_on 8 8 16 bs _ _ refl c.take_u64.ensures.back c.take_u64-2.ensures.back) c.take_u32.ensures.back ∙ take_all 20 bs (omega arith);
+      back = joined_on 16 4 20 bs _ _ refl (joined_on 8 8 16 bs _ _ refl c.take.ensures.back c.take-2.ensures.back) c.take-3.ensures.back ∙ take_all 20 bs (omega arith);
     }

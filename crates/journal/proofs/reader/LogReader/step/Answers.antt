@@ -16,9 +16,9 @@ returns-in-Row g c =
     let self = c.args.self.now in
     let rest = take_rest self.log.now self.at in
     record {
-      shown = c.look-step.ensures.shown ∙ (λ i. look (c.wide-width.ensures i) self.last self.at (rest i));
-      key = subst (λ (w : ℕ). KeyWide w (shown c.look-step.result)) c.wide-width.ensures c.look-step.ensures.key;
-      at = (λ i. sym c.in-Row.ensures.stands i + (34 + c.wide-width.ensures i + length c.in-Row.value.now)) ∙ ap (λ (r : Step). at_after g.K.Key.width (shown r)) (sym c.in-Row.is);
+      shown = c.look-step.ensures.shown ∙ (λ i. look (c.WIDTH-width.ensures i) self.last self.at (rest i));
+      key = subst (λ (w : ℕ). KeyWide w (shown c.look-step.result)) c.WIDTH-width.ensures c.look-step.ensures.key;
+      at = (λ i. sym c.in-Row.ensures.stands i + (34 + c.WIDTH-width.ensures i + length c.in-Row.value.now)) ∙ ap (λ (r : Step). at_after g.K.Key.WIDTH (shown r)) (sym c.in-Row.is);
       last = ap (λ (r : Step). last_after self.last (shown r)) (sym c.in-Row.is);
       log = search rules;
     }
@@ -27,10 +27,10 @@ pub returns-in_default : goal.returns-in_default
 returns-in_default g c =
     let self = c.args.self.now in
     let rest = take_rest self.log.now self.at in
-    let still = stays g.K.Key.width self.last c.look-step.result c.in_default.not-Row in
+    let still = stays g.K.Key.WIDTH self.last c.look-step.result c.in_default.not-Row in
     record {
-      shown = c.look-step.ensures.shown ∙ (λ i. look (c.wide-width.ensures i) self.last self.at (rest i));
-      key = subst (λ (w : ℕ). KeyWide w (shown c.look-step.result)) c.wide-width.ensures c.look-step.ensures.key;
+      shown = c.look-step.ensures.shown ∙ (λ i. look (c.WIDTH-width.ensures i) self.last self.at (rest i));
+      key = subst (λ (w : ℕ). KeyWide w (shown c.look-step.result)) c.WIDTH-width.ensures c.look-step.ensures.key;
       at = sym (still.0 ∙ c.look-step.ensures.stands);
       last = sym still.1;
       log = search rules;

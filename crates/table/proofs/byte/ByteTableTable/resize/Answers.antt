@@ -16,7 +16,7 @@ returns c =
     λ x. (byte_means x.bytes.now m ≡ resize_after (byte_means bs s.entries) m) × IsByteGood x.bytes.now m in
     let done : P c.if-count-entries.self =
     elim c.if-count-entries.branch [
-      | then-count-entries w ↦ subst P (sym w.self-is) (byte_grown bs s.entries m c.requires room w.if-count-entries.true w.zero_part.new.bytes w.zero_part.ensures)
+      | then-count-entries w ↦ subst P (sym w.self-is) (byte_grown bs s.entries m c.requires room w.if-count-entries.true w.fill_part.new.items w.fill_part.ensures)
       | else-count-entries w ↦ subst P (sym w.self-is) (byte_shrunk bs s.entries m c.requires room w.if-count-entries.false)
     ] in
     record { answer = byte_resize_answer bs s.entries m c.requires room; after = done.0; good = done.1; same = search rules }

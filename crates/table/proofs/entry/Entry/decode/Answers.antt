@@ -5,5 +5,5 @@ use Rattle.table.proofs.entry.Entry.decode.Goals as goal
 pub returns : goal.returns
 returns c = record {
   value = search rules;
-  back = entry_parts c.args.from.now _ _ _ _ _ c.requires c.take_u64.ensures.back c.take_u64-2.ensures.back c.take_u64-3.ensures.back c.take_u8.ensures.back c.take_u32.ensures.back;
+  back = entry_parts c.args.from.now _ _ _ _ _ c.requires c.take.ensures.back c.take-2.ensures.back c.take-3.ensures.back c.take-4.ensures.back c.take-5.ensures.back;
 }

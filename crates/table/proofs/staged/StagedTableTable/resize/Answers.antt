@@ -18,7 +18,7 @@ returns c =
     × IsStagedGood x.working.now x.durable.now n x.durable_len in
     let done : P c.if-count-len.self =
     elim c.if-count-len.branch [
-      | then-count-len w ↦ subst P (sym w.self-is) (staged_grown ws ss s.len k n c.requires c.if-count-self.false c.if-count-self-2.false w.if-count-len.true w.empty_part.new.entries w.empty_part.ensures)
+      | then-count-len w ↦ subst P (sym w.self-is) (staged_grown ws ss s.len k n c.requires c.if-count-self.false c.if-count-self-2.false w.if-count-len.true w.fill_part.new.items w.fill_part.ensures)
       | else-count-len w ↦ subst P (sym w.self-is) (staged_shrink ws ss s.len k n c.requires c.if-count-self.false c.if-count-self-2.false w.if-count-len.false, (omega arith, omega arith))
     ] in
     record { answer = staged_resize_answer ws ss s.len k n c.requires c.if-count-self.false c.if-count-self-2.false; after = done.0; good = done.1; same = search rules }

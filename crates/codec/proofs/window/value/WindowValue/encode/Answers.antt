@@ -7,5 +7,5 @@ pub returns : goal.returns
 returns c =
     record {
       count = refl;
-      written = both_written c.args.out.now _ _ (be 8 c.args.self.now.first) (be 8 c.args.self.now.end) refl refl c.put_u64.ensures.written c.put_u64-2.ensures.written;
+      written = both_written c.args.out.now _ _ (be 8 c.args.self.now.first) (be 8 c.args.self.now.end) refl refl c.put.ensures.written c.put-2.ensures.written;
     }
