@@ -17,16 +17,16 @@ module _ {K : Type 0} (bytes : K → List ℕ) (w : ℕ) (sized : (k : K) → le
   pub length_record : (r : Record K) → length (record_encoding bytes r) ≡ w + 28
   length_record r =
       let p1 : List ℕ = bytes r.key in
-      let p2 : List ℕ = p1 ++ be 8 r.next_section in
-      let p3 : List ℕ = p2 ++ be 8 r.next_position in
+      let p2 : List ℕ = p1 ++ be 8 r.next.section in
+      let p3 : List ℕ = p2 ++ be 8 r.next.position in
       let p4 : List ℕ = p3 ++ be 8 r.value_offset in
-      omega (arith, sized r.key, length-append p1 (be 8 r.next_section), length-append p2 (be 8 r.next_position), length-append p3 (be 8 r.value_offset), length-append p4 (be 4 r.value_size))
+      omega (arith, sized r.key, length-append p1 (be 8 r.next.section), length-append p2 (be 8 r.next.position), length-append p3 (be 8 r.value_offset), length-append p4 (be 4 r.value_size))
 
   pub read_encoded : (decoding : List ℕ → K) → ((k : K) → decoding (bytes k) ≡ k) → (r : Record K) → RecordFits r → (rest : List ℕ) → record_read decoding w (record_encoding bytes r ++ rest) ≡ r
   read_encoded decoding back r f rest =
       let k : List ℕ = bytes r.key in
-      let a : List ℕ = be 8 r.next_section in
-      let b : List ℕ = be 8 r.next_position in
+      let a : List ℕ = be 8 r.next.section in
+      let b : List ℕ = be 8 r.next.position in
       let o : List ℕ = be 8 r.value_offset in
       let z : List ℕ = be 4 r.value_size in
       let bs : List ℕ = ((((k ++ a) ++ b) ++ o) ++ z) ++ rest in
@@ -42,8 +42,8 @@ module _ {K : Type 0} (bytes : K → List ℕ) (w : ℕ) (sized : (k : K) → le
       let e1 : bs ≡ f1 ++ (b ++ (o ++ (z ++ rest))) = e2 ∙ append_assoc f1 b (o ++ (z ++ rest)) in
       let e0 : bs ≡ k ++ (a ++ (b ++ (o ++ (z ++ rest)))) = e1 ∙ append_assoc k a (b ++ (o ++ (z ++ rest))) in
       let key : decoding (take w bs) ≡ r.key = ap decoding (ap (take w) e0 ∙ take_at k _ w lk) ∙ back r.key in
-      let ns = ap number (field w (w + 8) bs k a _ e0 lk (omega arith)) ∙ number-be 8 r.next_section f.0 in
-      let np = ap number (field (w + 8) (w + 16) bs f1 b _ e1 l1 (omega arith)) ∙ number-be 8 r.next_position f.1 in
+      let ns = ap number (field w (w + 8) bs k a _ e0 lk (omega arith)) ∙ number-be 8 r.next.section f.0 in
+      let np = ap number (field (w + 8) (w + 16) bs f1 b _ e1 l1 (omega arith)) ∙ number-be 8 r.next.position f.1 in
       let off = ap number (field (w + 16) (w + 24) bs f2 o _ e2 l2 (omega arith)) ∙ number-be 8 r.value_offset f.2 in
       let size = ap number (field (w + 24) (w + 28) bs f3 z _ e3 l3 (omega arith)) ∙ number-be 4 r.value_size f.3 in
       λ i. record_with (key i) (ns i) (np i) (off i) (size i)

@@ -3,6 +3,7 @@ use Rattle.std.specs.Prelude.{ℕ, ◌-◌, ◌*◌, Bool, cond, ◌&&◌, List,
 use Rattle.journal.specs.declared.fault.JournalFault.{JournalFault}
 use Rattle.journal.specs.declared.fault.JournalFault.TheVariants.{NoRow}
 use Rattle.journal.specs.declared.record.Record.{Record}
+use Rattle.journal.specs.Places.{place}
 use Rattle.journal.specs.Rows.{Row, JournalMeaning, append, restore, apply, append_fault, restore_fault, in_bounds, value_end, stored_of, stored_bytes, row_at}
 
 -- what a call answers, by its fault
@@ -46,8 +47,7 @@ module _ {K : Type 0} where
   abbrev pub record_of : ℕ → Row K → Record K
   record_of offset r = record {
     key = r.key;
-    next_section = r.next_section;
-    next_position = r.next_position;
+    next = place r.next_section r.next_position;
     value_offset = offset;
     value_size = length r.stored;
   }
@@ -59,7 +59,7 @@ module _ {K : Type 0} where
 
   -- 14: no row there
   abbrev pub or_no_row : ℕ → ℕ → Option (Record K) → Result (Record K) JournalFault
-  or_no_row s p None = Err (NoRow s p)
+  or_no_row s p None = Err (NoRow (place s p))
   or_no_row s p (Some r) = Ok r
 
   -- the record at a place

@@ -9,7 +9,7 @@ abbrev pub journal_number : JournalFault → ℕ
 journal_number (Restore s) = 7
 journal_number (Full s) = 10
 journal_number (Below s) = 13
-journal_number (NoRow s p) = 14
+journal_number (NoRow p) = 14
 journal_number (NoValue c) = 16
 journal_number (Check a b) = 17
 journal_number (Kind c) = 18
@@ -28,7 +28,7 @@ abbrev pub journal_details : JournalFault → List ℕ
 journal_details (Restore s) = s ∷ []
 journal_details (Full s) = s ∷ []
 journal_details (Below s) = s ∷ []
-journal_details (NoRow s p) = s ∷ p ∷ []
+journal_details (NoRow p) = p.section ∷ p.position ∷ []
 journal_details (NoValue c) = cursor_numbers c
 journal_details (Check a b) = a ∷ b ∷ []
 journal_details (Kind c) = place_numbers c

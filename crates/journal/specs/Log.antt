@@ -89,7 +89,7 @@ pub data Shown : Type 0 where
 
 -- what each answer carries
 abbrev pub shown : Step → Shown
-shown (Row at s k ns np v) = row at (log_row s k.now ns np v.now)
+shown (Row at s k next v) = row at (log_row s k.now next.section next.position v.now)
 shown (Blank at) = blank at
 shown (Spoiled at) = spoiled at
 

@@ -5,6 +5,7 @@ ghost use Rattle.journal.specs.Answers.{append_after, get_answer, size_answer};
 ghost use Rattle.journal.specs.Rows.{apply, restore};
 
 use crate::fault::{Cursor, JournalFault};
+use crate::place::Place;
 use crate::record::Record;
 use crate::store::Journal;
 use codec::{Key, Value};
@@ -14,24 +15,15 @@ pub fn append_and_read<K: Key, V: Value, J: Journal<K, V>>(
     journal: &mut J,
     section: u64,
     key: &K,
-    next_section: u64,
-    next_position: u64,
+    next: Place,
     value: &V,
 ) -> Result<(Record<K>, V), JournalFault>
-    requires { J.good journal.old }
-    ensures answer { result ≡ append_and_read_lem (K.Key.WIDTH + 28) (J.means journal.old) (J.space journal.old section (length (V.Value.encoding value.now))) section key.now next_section next_position (V.Value.encoding value.now) value.now }
-    ensures after { J.means journal.new ≡ append_after (K.Key.WIDTH + 28) (J.means journal.old) (J.space journal.old section (length (V.Value.encoding value.now))) section key.now next_section next_position (V.Value.encoding value.now) }
-    ensures good { J.good journal.new }
+    ensures answer { result ≡ append_and_read_lem (K.Key.WIDTH + 28) (J.means journal.old) (J.space journal.old section (length (V.Value.encoding value.now))) section key.now next.section next.position (V.Value.encoding value.now) value.now }
+    ensures after { J.means journal.new ≡ append_after (K.Key.WIDTH + 28) (J.means journal.old) (J.space journal.old section (length (V.Value.encoding value.now))) section key.now next.section next.position (V.Value.encoding value.now) }
     ensures same { J.lent journal.new ≡ J.lent journal.old }
 {
-    let (position, offset, size) = journal.append(
-        section,
-        key,
-        next_section,
-        next_position,
-        value,
-    )?;
-    let record = journal.get(section, position).unwrap();
+    let (position, offset, size) = journal.append(section, key, next, value)?;
+    let record = journal.get(Place { section, position }).unwrap();
     let read = journal
         .value(Cursor {
             section,
@@ -47,11 +39,9 @@ pub fn restore_whole<K: Key, V: Value, J: Journal<K, V>>(
     journal: &mut J,
     section: u64,
 ) -> Result<(), JournalFault>
-    requires { J.good journal.old }
     ensures answer { result ≡ Ok tt }
     ensures after { J.means journal.new ≡ apply (K.Key.WIDTH + 28) (J.means journal.old) (restore section (size_answer (K.Key.WIDTH + 28) (J.means journal.old) section)) }
     ensures kept { (i : ℕ) → i ≤ section → (J.means journal.new).rows i ≡ (J.means journal.old).rows i }
-    ensures good { J.good journal.new }
     ensures same { J.lent journal.new ≡ J.lent journal.old }
 {
     let bytes = journal.size(section);
@@ -60,7 +50,6 @@ pub fn restore_whole<K: Key, V: Value, J: Journal<K, V>>(
 
 // The rows of a section: those whose record bytes `size` counts, and those that `get` reaches.
 pub fn row_count<K: Key, V: Value, J: Journal<K, V>>(journal: &J, section: u64) -> u64
-    requires { J.good journal.now }
     ensures rows { result ≡ length ((J.means journal.now).rows section) }
     ensures counted { result * (K.Key.WIDTH + 28) ≡ size_answer (K.Key.WIDTH + 28) (J.means journal.now) section }
     ensures reached { (p : ℕ) → is_ok (get_answer (J.means journal.now) section p) ≡ nat_lt p result }

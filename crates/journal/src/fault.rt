@@ -2,15 +2,17 @@
 ghost use Rattle.std.specs.Prelude.{◌≡◌};
 ghost use Rattle.journal.specs.Faults.{journal_number};
 
+use crate::place::Place;
+
 // The place of a value: its section, where its stored bytes begin there, and how many they are with their check.
-#[derive(Clone, Copy)]
+#[derive(Clone, Copy, PartialEq, Eq, Debug)]
 pub struct Cursor {
     pub section: u64,
     pub offset: u64,
     pub size: u32,
 }
 
-#[derive(Clone, Copy)]
+#[derive(Clone, Copy, PartialEq, Eq, Debug)]
 pub enum JournalFault {
     // A section has fewer bytes than stated, or these are no whole records.
     Restore(u64),
@@ -18,8 +20,8 @@ pub enum JournalFault {
     Full(u64),
     // A section is below the highest with rows.
     Below(u64),
-    // There is no row at a section and position.
-    NoRow(u64, u64),
+    // There is no row at a place.
+    NoRow(Place),
     // No row has a value at this place.
     NoValue(Cursor),
     // A stored check is wrong: the stored one, and that of the bytes.
@@ -36,7 +38,7 @@ impl JournalFault {
             JournalFault::Restore(_) => 7,
             JournalFault::Full(_) => 10,
             JournalFault::Below(_) => 13,
-            JournalFault::NoRow(_, _) => 14,
+            JournalFault::NoRow(_) => 14,
             JournalFault::NoValue(_) => 16,
             JournalFault::Check(_, _) => 17,
             JournalFault::Kind(_) => 18,

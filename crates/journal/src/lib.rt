@@ -4,6 +4,7 @@
 mod above;
 mod cursor;
 mod fault;
+mod place;
 mod reader;
 mod record;
 mod step;
@@ -15,6 +16,7 @@ mod writer;
 
 pub use above::{append_and_read, restore_whole, row_count};
 pub use fault::{Cursor, JournalFault};
+pub use place::Place;
 pub use reader::LogReader;
 pub use record::{Record, write_record};
 pub use step::Step;

@@ -2,6 +2,7 @@
 ghost use Rattle.std.specs.Prelude.{◌≡◌, ℕ, ◌+◌, ◌≤◌, List, ◌++◌, length, drop, replicate};
 ghost use Rattle.journal.specs.Log.{KeyWide, LogRow, Rising, Shows, at_after, blank, last_after, log_bytes, look, shown, stands};
 
+use crate::place::Place;
 use crate::step::Step;
 use codec::{Key, Number};
 use crc32c::checksum;
@@ -89,14 +90,15 @@ fn look<'a>(rest: &'a [u8], width: usize, last: u64, at: usize) -> Step<'a>
         return Step::Spoiled { at };
     }
     let key = &rest[10..10 + width];
-    let next_section = u64::take(&rest[10 + width..18 + width]);
-    let next_position = u64::take(&rest[18 + width..26 + width]);
+    let next = Place {
+        section: u64::take(&rest[10 + width..18 + width]),
+        position: u64::take(&rest[18 + width..26 + width]),
+    };
     Step::Row {
         at,
         section,
         key,
-        next_section,
-        next_position,
+        next,
         value,
     }
 }

@@ -2,14 +2,14 @@
 ghost use Rattle.std.specs.Prelude.{◌≡◌, ◌+◌, length};
 ghost use Rattle.journal.specs.Layouts.{RecordFits, record_encoding, record_with};
 
+use crate::place::Place;
 use codec::{Key, Number};
 
-// Both numbers of the next place all ones mean none.
+// The next place is `Place::NONE` in the last row of a chain.
 #[derive(Drop)]
 pub struct Record<K> {
     pub key: K,
-    pub next_section: u64,
-    pub next_position: u64,
+    pub next: Place,
     pub value_offset: u64,
     pub value_size: u32,
 }
@@ -18,18 +18,17 @@ pub struct Record<K> {
 pub fn write_record<K: Key>(
     out: &mut [u8],
     key: &K,
-    next_section: u64,
-    next_position: u64,
+    next: Place,
     value_offset: u64,
     value_size: u32,
 )
     requires { length out.old ≡ K.Key.WIDTH + 28 }
-    ensures { out.new ≡ record_encoding K.Key.bytes (record_with key.now next_section next_position value_offset value_size) }
+    ensures { out.new ≡ record_encoding K.Key.bytes (record_with key.now next.section next.position value_offset value_size) }
 {
     let wide = K::WIDTH;
     key.encode(&mut out[0..wide]);
-    next_section.put(&mut out[wide..wide + 8]);
-    next_position.put(&mut out[wide + 8..wide + 16]);
+    next.section.put(&mut out[wide..wide + 8]);
+    next.position.put(&mut out[wide + 8..wide + 16]);
     value_offset.put(&mut out[wide + 16..wide + 24]);
     value_size.put(&mut out[wide + 24..wide + 28]);
 }
@@ -42,8 +41,7 @@ impl<K: Key> Record<K> {
         write_record(
             out,
             &self.key,
-            self.next_section,
-            self.next_position,
+            self.next,
             self.value_offset,
             self.value_size,
         );
@@ -58,8 +56,10 @@ impl<K: Key> Record<K> {
         let wide = K::WIDTH;
         Record {
             key: K::decode(&from[0..wide]),
-            next_section: u64::take(&from[wide..wide + 8]),
-            next_position: u64::take(&from[wide + 8..wide + 16]),
+            next: Place {
+                section: u64::take(&from[wide..wide + 8]),
+                position: u64::take(&from[wide + 8..wide + 16]),
+            },
             value_offset: u64::take(&from[wide + 16..wide + 24]),
             value_size: u32::take(&from[wide + 24..wide + 28]),
         }

@@ -1,12 +1,13 @@
 // What one step of a reader shows, and where it stands. Key and value are parts of the log.
+use crate::place::Place;
+
 #[derive(Clone, Copy)]
 pub enum Step<'a> {
     Row {
         at: usize,
         section: u64,
         key: &'a [u8],
-        next_section: u64,
-        next_position: u64,
+        next: Place,
         value: &'a [u8],
     },
     // Fewer than two bytes are left, or two zero bytes stand here.

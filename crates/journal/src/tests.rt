@@ -1,5 +1,7 @@
 // A reader over short, cut and damaged logs; records, cursors and stored values.
-use crate::{Cursor, LogReader, Record, Step, read_stored, row_size, write_row, write_stored};
+use crate::{
+    Cursor, LogReader, Place, Record, Step, read_stored, row_size, write_row, write_stored,
+};
 use codec::{Key, Serial, Value, Window};
 
 // One row of 58 bytes: serial 7, the window 5 to 9, in section 3, with no next.
@@ -9,8 +11,7 @@ fn one_row() -> [u8; 58] {
         &mut log,
         3,
         &Serial { value: 7 },
-        u64::MAX,
-        u64::MAX,
+        Place::NONE,
         &Window::new(5, 9),
     );
     log
@@ -28,15 +29,14 @@ fn differs(log: &[u8]) -> Option<[bool; 5]> {
         Step::Row {
             section,
             key,
-            next_section,
-            next_position,
+            next,
             value,
             ..
         } => Some([
             section != 3,
             key != &own[10..18],
-            next_section != u64::MAX,
-            next_position != u64::MAX,
+            next.section != u64::MAX,
+            next.position != u64::MAX,
             value != &own[38..54],
         ]),
         _ => None,
@@ -98,16 +98,17 @@ fn falling(rt: HostRuntime) {
         &mut log[0..58],
         3,
         &Serial { value: 7 },
-        u64::MAX,
-        u64::MAX,
+        Place::NONE,
         &Window::new(5, 9),
     );
     write_row(
         &mut log[58..116],
         2,
         &Serial { value: 8 },
-        3,
-        0,
+        Place {
+            section: 3,
+            position: 0,
+        },
         &Window::new(6, 9),
     );
     let mut reader = LogReader::<Serial>::new(&log);
@@ -141,8 +142,10 @@ fn falling(rt: HostRuntime) {
             Step::Row {
                 at: 58,
                 section: 3,
-                next_section: 3,
-                next_position: 0,
+                next: Place {
+                    section: 3,
+                    position: 0,
+                },
                 ..
             }
         )
@@ -155,8 +158,10 @@ fn falling(rt: HostRuntime) {
 fn records(rt: HostRuntime) {
     let record = Record {
         key: Serial { value: 7 },
-        next_section: 1,
-        next_position: 2,
+        next: Place {
+            section: 1,
+            position: 2,
+        },
         value_offset: 3,
         value_size: 4,
     };
@@ -166,7 +171,7 @@ fn records(rt: HostRuntime) {
         bytes[7] == 7 && bytes[15] == 1 && bytes[23] == 2 && bytes[31] == 3 && bytes[35] == 4
     );
     let back = Record::<Serial>::decode(&bytes);
-    assert!(rt; back.key.value == 7 && back.next_section == 1 && back.next_position == 2);
+    assert!(rt; back.key.value == 7 && back.next.section == 1 && back.next.position == 2);
     assert!(rt; back.value_offset == 3 && back.value_size == 4);
     let mut room = [0u8; 20];
     Cursor {

@@ -2,6 +2,7 @@
 ghost use Rattle.std.specs.Prelude.{◌≡◌, ◌+◌, length};
 ghost use Rattle.journal.specs.Log.{Writable, head_bytes, log_row, row_bytes, row_len, tail_bytes};
 
+use crate::place::Place;
 use codec::{Key, Number, Value};
 use crc32c::checksum;
 
@@ -13,35 +14,28 @@ pub fn row_size<K: Key, V: Value>(value: &V) -> usize
 }
 
 // Fills `out` with one row.
-pub fn write_row<K: Key, V: Value>(
-    out: &mut [u8],
-    section: u64,
-    key: &K,
-    next_section: u64,
-    next_position: u64,
-    value: &V,
-)
+pub fn write_row<K: Key, V: Value>(out: &mut [u8], section: u64, key: &K, next: Place, value: &V)
     requires { length out.old ≡ row_len K.Key.WIDTH (length (V.Value.encoding value.now)) }
-    ensures written { out.new ≡ row_bytes (log_row section (K.Key.bytes key.now) next_section next_position (V.Value.encoding value.now)) }
-    ensures writable { Writable K.Key.WIDTH (log_row section (K.Key.bytes key.now) next_section next_position (V.Value.encoding value.now)) }
+    ensures written { out.new ≡ row_bytes (log_row section (K.Key.bytes key.now) next.section next.position (V.Value.encoding value.now)) }
+    ensures writable { Writable K.Key.WIDTH (log_row section (K.Key.bytes key.now) next.section next.position (V.Value.encoding value.now)) }
 {
     let head = 26 + K::WIDTH;
     let end = out.len();
-    write_head(&mut out[0..head], section, key, next_section, next_position);
+    write_head(&mut out[0..head], section, key, next);
     write_tail(&mut out[head..end], value);
 }
 
 // The mark, the section, the key and the next place.
-fn write_head<K: Key>(out: &mut [u8], section: u64, key: &K, next_section: u64, next_position: u64)
+fn write_head<K: Key>(out: &mut [u8], section: u64, key: &K, next: Place)
     requires { length out.old ≡ 26 + K.WIDTH }
-    ensures { out.new ≡ head_bytes section (K.bytes key.now) next_section next_position }
+    ensures { out.new ≡ head_bytes section (K.bytes key.now) next.section next.position }
 {
     let wide = K::WIDTH;
     out[0..2].copy_from_slice(&[0x46, 0x5a]);
     section.put(&mut out[2..10]);
     key.encode(&mut out[10..10 + wide]);
-    next_section.put(&mut out[10 + wide..18 + wide]);
-    next_position.put(&mut out[18 + wide..26 + wide]);
+    next.section.put(&mut out[10 + wide..18 + wide]);
+    next.position.put(&mut out[18 + wide..26 + wide]);
 }
 
 // The value with its length and its check.

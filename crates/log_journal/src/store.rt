@@ -8,7 +8,7 @@ ghost use Rattle.log_journal.specs.Kept.{IsLogGood, either, log_end, log_means, 
 use crate::place::{place, restored_end, row_fits};
 use crate::walk::{end, highest, record_at, tally_of, value_at};
 use codec::{DecodedKey, Key, Value, fill_part};
-use journal::{Cursor, Journal, JournalFault, Record, row_size, write_row};
+use journal::{Cursor, Journal, JournalFault, Place, Record, row_size, write_row};
 use std::marker::PhantomData;
 
 // Writes a row behind the rows, which take `used` bytes, where it has a place.
@@ -17,13 +17,12 @@ fn append_row<K: DecodedKey, V: Value>(
     used: usize,
     section: u64,
     key: &K,
-    next_section: u64,
-    next_position: u64,
+    next: Place,
     value: &V,
 ) -> Result<(u64, u64, u32), JournalFault>
     requires { IsLogGood K.Key.WIDTH bytes.old used }
     ensures answer { result ≡ append_answer (K.Key.WIDTH + 28) (log_means K.DecodedKey.decoding K.Key.WIDTH bytes.old) (log_space used K.Key.WIDTH bytes.old section (length (V.Value.encoding value.now))) section (V.Value.encoding value.now) }
-    ensures after { log_means K.DecodedKey.decoding K.Key.WIDTH bytes.new ≡ append_after (K.Key.WIDTH + 28) (log_means K.DecodedKey.decoding K.Key.WIDTH bytes.old) (log_space used K.Key.WIDTH bytes.old section (length (V.Value.encoding value.now))) section key.now next_section next_position (V.Value.encoding value.now) }
+    ensures after { log_means K.DecodedKey.decoding K.Key.WIDTH bytes.new ≡ append_after (K.Key.WIDTH + 28) (log_means K.DecodedKey.decoding K.Key.WIDTH bytes.old) (log_space used K.Key.WIDTH bytes.old section (length (V.Value.encoding value.now))) section key.now next.section next.position (V.Value.encoding value.now) }
     ensures good { IsLogGood K.Key.WIDTH bytes.new (either result used (used + row_len K.Key.WIDTH (length (V.Value.encoding value.now)))) }
 {
     let answer = place::<K, V>(bytes, used, section, value)?;
@@ -32,8 +31,7 @@ fn append_row<K: DecodedKey, V: Value>(
         &mut bytes[used..end],
         section,
         key,
-        next_section,
-        next_position,
+        next,
         value,
     );
     Ok(answer)
@@ -67,10 +65,11 @@ fn clear_rows<K: DecodedKey>(bytes: &mut [u8], used: usize)
 
 // Its rows take the first `used` bytes.
 #[derive(Drop)]
-pub struct LogJournal<'a, K> {
+pub struct LogJournal<'a, K: Key> {
     bytes: &'a mut [u8],
     used: usize,
     kind: PhantomData<K>,
+    ghost ok: { IsLogGood K.Key.WIDTH bytes.now used },
 }
 
 impl<'a, K: Key> LogJournal<'a, K> {
@@ -80,7 +79,6 @@ impl<'a, K: Key> LogJournal<'a, K> {
         ensures bytes { result.bytes.now ≡ opened K.Key.WIDTH bytes.old }
         ensures rows { rows_in K.Key.WIDTH result.bytes.now ≡ rows_in K.Key.WIDTH bytes.old }
         ensures used { result.used ≡ log_end K.Key.WIDTH bytes.old }
-        ensures good { IsLogGood K.Key.WIDTH result.bytes.now result.used }
     {
         let used = end::<K>(bytes);
         let len = bytes.len();
@@ -96,8 +94,6 @@ impl<'a, K: Key> LogJournal<'a, K> {
 impl<'a, K: DecodedKey, V: Value> Journal<K, V> for LogJournal<'a, K> {
     ghost means = { λ j. log_means K.DecodedKey.decoding K.Key.WIDTH j.bytes.now };
 
-    ghost good = { λ j. IsLogGood K.Key.WIDTH j.bytes.now j.used };
-
     ghost space = { λ j section n. log_space j.used K.Key.WIDTH j.bytes.now section n };
 
     ghost lent = { λ j. j.bytes.ghost_name ∷ [] };
@@ -110,8 +106,7 @@ impl<'a, K: DecodedKey, V: Value> Journal<K, V> for LogJournal<'a, K> {
         &mut self,
         section: u64,
         key: &K,
-        next_section: u64,
-        next_position: u64,
+        next: Place,
         value: &V,
     ) -> Result<(u64, u64, u32), JournalFault> {
         let used = self.used;
@@ -120,19 +115,15 @@ impl<'a, K: DecodedKey, V: Value> Journal<K, V> for LogJournal<'a, K> {
             used,
             section,
             key,
-            next_section,
-            next_position,
+            next,
             value,
         )?;
         self.used = used + row_size::<K, V>(value);
         Ok(answer)
     }
 
-    fn get(&self, section: u64, position: u64) -> Result<Record<K>, JournalFault> {
-        match record_at::<K>(self.bytes, section, position) {
-            Some(record) => Ok(record),
-            None => Err(JournalFault::NoRow(section, position)),
-        }
+    fn get(&self, place: Place) -> Result<Record<K>, JournalFault> {
+        record_at::<K>(self.bytes, place).ok_or(JournalFault::NoRow(place))
     }
 
     fn value(&self, cursor: Cursor) -> Result<V, JournalFault> {

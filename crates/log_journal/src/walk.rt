@@ -7,7 +7,7 @@ ghost use Rattle.journal.specs.Log.{Rising, log_bytes};
 ghost use Rattle.log_journal.specs.Kept.{keeps_row, log_end, log_means, rows_in, section_in};
 
 use codec::{DecodedKey, Key, Value};
-use journal::{Cursor, JournalFault, LogReader, Record, Step};
+use journal::{Cursor, JournalFault, LogReader, Place, Record, Step};
 
 // How many bytes the rows take. The bytes in front are theirs, and each is a row that could be written there.
 pub fn end<K: Key>(log: &[u8]) -> usize
@@ -66,30 +66,28 @@ pub fn highest<K: DecodedKey>(log: &[u8]) -> Option<u64>
 }
 
 // The record at a position of a section.
-pub fn record_at<K: DecodedKey>(log: &[u8], section: u64, position: u64) -> Option<Record<K>>
-    ensures { result ≡ record_there ((log_means K.DecodedKey.decoding K.Key.WIDTH log.now).rows section) position (row_at ((log_means K.DecodedKey.decoding K.Key.WIDTH log.now).rows section) position) }
+pub fn record_at<K: DecodedKey>(log: &[u8], place: Place) -> Option<Record<K>>
+    ensures { result ≡ record_there ((log_means K.DecodedKey.decoding K.Key.WIDTH log.now).rows place.section) place.position (row_at ((log_means K.DecodedKey.decoding K.Key.WIDTH log.now).rows place.section) place.position) }
 {
-    let mut left = position;
+    let mut left = place.position;
     let mut offset = 0;
     let mut reader = LogReader::<K>::new(log);
     while let Step::Row {
         section: own,
         key,
-        next_section,
-        next_position,
+        next,
         value,
         ..
     } = reader.step()
     {
-        if own != section {
+        if own != place.section {
             continue;
         }
         let size = value.len() + 4;
         if left == 0 {
             return Some(Record {
                 key: K::decode(key),
-                next_section,
-                next_position,
+                next,
                 value_offset: offset,
                 value_size: size as u32,
             });

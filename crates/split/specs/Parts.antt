@@ -107,8 +107,8 @@ module _ {K : Type 0} where
   abbrev pub row_with : Record K → List ℕ → Row K
   row_with r values = record {
     key = r.key;
-    next_section = r.next_section;
-    next_position = r.next_position;
+    next_section = r.next.section;
+    next_position = r.next.position;
     stored = take r.value_size values;
   }
 

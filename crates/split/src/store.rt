@@ -138,8 +138,7 @@ impl<'a, K: DecodedKey, V: Value> Journal<K, V> for SplitJournal<'a, K> {
         &mut self,
         section: u64,
         key: &K,
-        next_section: u64,
-        next_position: u64,
+        next: Place,
         value: &V,
     ) -> Result<(u64, u64, u32), JournalFault> {
         let len = value.encode_size();
@@ -152,8 +151,7 @@ impl<'a, K: DecodedKey, V: Value> Journal<K, V> for SplitJournal<'a, K> {
         write_record(
             &mut self.records[row..row + size],
             key,
-            next_section,
-            next_position,
+            next,
             entry.bytes,
             stored as u32,
         );
@@ -169,14 +167,14 @@ impl<'a, K: DecodedKey, V: Value> Journal<K, V> for SplitJournal<'a, K> {
         Ok((entry.rows, entry.bytes, stored as u32))
     }
 
-    fn get(&self, section: u64, position: u64) -> Result<Record<K>, JournalFault> {
+    fn get(&self, place: Place) -> Result<Record<K>, JournalFault> {
         let used = self.used;
-        let entry = entry_of(&self.directory[0..used], section);
-        if position >= entry.rows {
-            return Err(JournalFault::NoRow(section, position));
+        let entry = entry_of(&self.directory[0..used], place.section);
+        if place.position >= entry.rows {
+            return Err(JournalFault::NoRow(place));
         }
         let size = K::WIDTH + 28;
-        let at = (entry.first_row + position) as usize * size;
+        let at = (entry.first_row + place.position) as usize * size;
         Ok(Record::decode(&self.records[at..at + size]))
     }
 

@@ -11,6 +11,5 @@ returns g c =
       answer = whole_answer (g.K.Key.WIDTH + 28) some j c.args.section c.size-bytes.result c.size-bytes.ensures c.restore.result c.restore.ensures.answer;
       after = whole_after (g.K.Key.WIDTH + 28) some j c.args.section c.size-bytes.result c.size-bytes.ensures after c.restore.ensures.after;
       kept = whole_kept (g.K.Key.WIDTH + 28) some j c.args.section c.size-bytes.result c.size-bytes.ensures after c.restore.ensures.after;
-      good = c.restore.ensures.good;
       same = c.restore.ensures.same;
     }

@@ -8,4 +8,4 @@ returns g c =
     let w = c.WIDTH-wide.result in
     let wide : length (g.K.Key.bytes a.key.now) ≡ w = g.met.K.Key.sized a.key.now ∙ sym c.WIDTH-wide.ensures in
     let long : length a.out.now ≡ w + 28 = omega (arith, c.requires, c.WIDTH-wide.ensures) in
-    record_written w a.next_section a.next_position a.value_offset a.value_size (g.K.Key.bytes a.key.now) a.out.now _ _ _ _ _ wide long c.encode.ensures c.put.ensures.written c.put-2.ensures.written c.put-3.ensures.written c.put-4.ensures.written
+    record_written w a.next.section a.next.position a.value_offset a.value_size (g.K.Key.bytes a.key.now) a.out.now _ _ _ _ _ wide long c.encode.ensures c.put.ensures.written c.put-2.ensures.written c.put-3.ensures.written c.put-4.ensures.written

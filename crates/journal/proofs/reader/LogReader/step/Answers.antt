@@ -1,13 +1,14 @@
 use Rattle.std.proofs.Common.{◌≡◌, ℕ, ◌+◌, List, length, sym, refl, ap, ◌∙◌, subst, arith, length-drop, Bor, rules}
 use Rattle.std.proofs.lemmas.List.{take_rest}
+use Rattle.journal.specs.declared.place.Place.{Place}
 use Rattle.journal.specs.declared.step.Step.{Step}
 use Rattle.journal.specs.declared.step.Step.TheVariants.{Row, Blank, Spoiled}
 use Rattle.journal.specs.Log.{KeyWide, look, shown, stands, at_after, last_after}
 use Rattle.journal.proofs.reader.LogReader.step.Goals as goal
 
 -- what shows no row moves nothing
-stays : (w last : ℕ) (r : Step) → ((at s : ℕ) (k : Bor (List ℕ)) (ns np : ℕ) (v : Bor (List ℕ)) → r ≡ Row at s k ns np v → ⊥) → (at_after w (shown r) ≡ stands (shown r)) × (last_after last (shown r) ≡ last)
-stays w last (Row at s k ns np v) none = absurd (none at s k ns np v refl)
+stays : (w last : ℕ) (r : Step) → ((at s : ℕ) (k : Bor (List ℕ)) (next : Place) (v : Bor (List ℕ)) → r ≡ Row at s k next v → ⊥) → (at_after w (shown r) ≡ stands (shown r)) × (last_after last (shown r) ≡ last)
+stays w last (Row at s k next v) none = absurd (none at s k next v refl)
 stays w last (Blank at) none = (refl, refl)
 stays w last (Spoiled at) none = (refl, refl)
 
