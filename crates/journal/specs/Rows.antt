@@ -29,6 +29,10 @@ pub record JournalMeaning (K : Type 0) : Type 0 where
   pub eager : Bool
   pub asked : Option (List (JournalChange K))
 
+-- no size and no end of a section passes 2 ^ 63: so of a section of these rows and stored bytes with one row more
+abbrev pub in_limits : ℕ → ℕ → ℕ → ℕ → Bool
+in_limits size rows bytes stored = nat_le (suc rows * size) (2 ^ 63) && nat_le (bytes + stored) (2 ^ 63)
+
 -- ---- values
 
 -- the check of a value
@@ -127,9 +131,9 @@ module _ {K : Type 0} where
 
   -- ---- what stops an append or a restore; `size` is the bytes of a record, `stored` those of the stored value
 
-  -- no journal fits a row that takes a size or an end past 2 ^ 63
+  -- no journal fits a row that takes its section past that
   abbrev pub in_bounds : ℕ → JournalMeaning K → ℕ → ℕ → Bool
-  in_bounds size j s stored = nat_le (suc (length (j.rows s)) * size) (2 ^ 63) && nat_le (value_end j s + stored) (2 ^ 63)
+  in_bounds size j s stored = in_limits size (length (j.rows s)) (value_end j s) stored
 
   -- 13: a section below the highest with rows; 10: the row does not fit, for want of space or of bounds
   abbrev pub append_fault : (space : Bool) → ℕ → JournalMeaning K → ℕ → ℕ → Option JournalFault

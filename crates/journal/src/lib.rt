@@ -4,6 +4,7 @@
 mod above;
 mod cursor;
 mod fault;
+mod limits;
 mod place;
 mod reader;
 mod record;
@@ -16,6 +17,7 @@ mod writer;
 
 pub use above::{append_and_read, restore_whole, row_count};
 pub use fault::{Cursor, JournalFault};
+pub use limits::in_limits;
 pub use place::Place;
 pub use reader::LogReader;
 pub use record::{Record, write_record};

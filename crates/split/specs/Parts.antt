@@ -161,10 +161,6 @@ module _ {K : Type 0} where
 
 -- ---- a split journal
 
--- no row fits that takes a size or an end of its section past 2 ^ 63
-abbrev pub in_limits : ℕ → ℕ → ℕ → ℕ → Bool
-in_limits size rows bytes stored = nat_le (suc rows * size) (2 ^ 63) && nat_le (bytes + stored) (2 ^ 63)
-
 -- is there space for one record and one stored value more, where so many stand already, and for an entry
 abbrev pub has_space : ℕ → ℕ → Bool → ℕ → ℕ → ℕ → ℕ → Bool
 has_space records values entry size rows bytes stored = nat_le (suc rows * size) records && (nat_le (bytes + stored) values && entry)
