@@ -5,6 +5,7 @@ use Rattle.std.proofs.lemmas.Bool.{eq-eqb, ne_eqb, eqb-true, lt-ltb, ltb-true, a
 use Rattle.codec.specs.Kinds.{Kinds, Lawful}
 use Rattle.table.specs.declared.pair.Head.{Head}
 use Rattle.table.specs.declared.pair.Head.TheVariants.{Vacant as none, Latest as latest, Equal as equal}
+use Rattle.journal.specs.Places.{place}
 use Rattle.journal.specs.declared.fault.Cursor.{Cursor}
 use Rattle.journal.specs.Rows.{Row, JournalMeaning, row_at, stored_bytes, stored_of, appended, value_answer}
 use Rattle.journal.proofs.RowsBack.{row_last, appended_here}
@@ -149,7 +150,7 @@ module _ {K V : Type 0} (kinds : Kinds K V) (lawful : Lawful kinds) (j : Journal
       let next = met_row kinds k j.rows m in
       let falls = rank_falls j.rows s p r.next_section r.next_position l (row_lt (j.rows r.next_section) r.next_position next.0 next.1) in
       let on : Result (Option Cursor) Fault = walk kinds j.rows k fuel r.next_section r.next_position in
-      let same : cond (has_no_next r) (Ok None) (cond (earlier r.next_section r.next_position s p) on (Err (NotEarlier s p))) ≡ on = cond-false (has_no_next r) _ _ n ∙ cond-true (earlier r.next_section r.next_position s p) _ _ l in
+      let same : cond (has_no_next r) (Ok None) (cond (earlier r.next_section r.next_position s p) on (Err (NotEarlier (place s p)))) ≡ on = cond-false (has_no_next r) _ _ n ∙ cond-true (earlier r.next_section r.next_position s p) _ _ l in
       subst (λ (w : Option (Row K)). Finds all (met kinds j.rows k s p (λ a b. walk kinds j.rows k fuel a b) w)) (sym q)
       (finds_one s p r (bytes_eq (kinds.bytes r.key) (kinds.bytes k)) rest all _ q a (subst (λ (w : Result (Option Cursor) Fault). Finds rest w) (sym same) (met_walk m fuel (omega arith))))
 

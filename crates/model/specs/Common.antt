@@ -11,6 +11,7 @@ use Rattle.table.specs.Store.{TableMeaning, slot_0, slot_1}
 use Rattle.journal.specs.declared.fault.JournalFault.{JournalFault}
 use Rattle.model.specs.declared.Fault.{Fault}
 use Rattle.model.specs.declared.Fault.TheVariants.{EqualEpochs, Table, Journal}
+use Rattle.journal.specs.Places.{ones_8}
 
 -- ---- tests in their order
 
@@ -65,7 +66,7 @@ lowest (suc n) f = or_else (lowest n f) (cond (f n) (Some n) None)
 
 -- the largest number of 8 bytes
 abbrev pub last : ℕ
-last = 2 ^ 64 - 1
+last = ones_8
 
 -- just one of its bits is 1
 abbrev pub power_of_two : ℕ → Bool

@@ -6,6 +6,7 @@ use Rattle.table.specs.declared.entry.Entry.{Entry}
 use Rattle.table.specs.declared.fault.TableFault.TheVariants.{PastEnd}
 use Rattle.table.specs.Entries.{entry, empty}
 use Rattle.table.specs.Store.{TableMeaning, write, resize}
+use Rattle.journal.specs.Places.{place}
 use Rattle.journal.specs.declared.fault.JournalFault.TheVariants.{Restore, Full, Below, NoRow, NoValue, Check, Kind}
 use Rattle.journal.specs.Rows.{Row, JournalMeaning, restore, stored_of}
 use Rattle.model.specs.declared.Numbers.{Numbers}
@@ -85,8 +86,8 @@ pub record LastOnes : Type 0 where
 
 -- 14, 15: a row that is not there, a next place that is not earlier; past a row of another key the walk goes on
 pub record Walks : Type 0 where
-  pub no_row : get_answer windows (numbers_at 1 None 6 0) (table_of (entry 5 0 7 1 ∷ empty ∷ [])) no_journal one ≡ Err (Journal (NoRow 0 7))
-  pub not_earlier : has_answer windows (numbers_at 1 None 6 0) head_at_1 (rows_of (row two 0 0 good ∷ row two 0 1 good ∷ [])) one ≡ Err (NotEarlier 0 1)
+  pub no_row : get_answer windows (numbers_at 1 None 6 0) (table_of (entry 5 0 7 1 ∷ empty ∷ [])) no_journal one ≡ Err (Journal (NoRow (place 0 7)))
+  pub not_earlier : has_answer windows (numbers_at 1 None 6 0) head_at_1 (rows_of (row two 0 0 good ∷ row two 0 1 good ∷ [])) one ≡ Err (NotEarlier (place 0 1))
   pub goes_on : get_answer windows (numbers_at 1 None 6 0) head_at_1 chain one ≡ Ok (Some window)
 
 -- 16, 17, 18: no row has this place, or too few bytes for a check; a wrong check, bytes that are no window

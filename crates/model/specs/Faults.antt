@@ -16,7 +16,7 @@ fault_number ShortTable = 6
 fault_number (EqualEpochs i) = 9
 fault_number LastSection = 11
 fault_number LastEpoch = 12
-fault_number (NotEarlier s p) = 15
+fault_number (NotEarlier p) = 15
 fault_number (Table f) = table_number f
 fault_number (Journal f) = journal_number f
 
@@ -31,6 +31,6 @@ fault_details ShortTable = []
 fault_details (EqualEpochs i) = i ∷ []
 fault_details LastSection = []
 fault_details LastEpoch = []
-fault_details (NotEarlier s p) = s ∷ p ∷ []
+fault_details (NotEarlier p) = p.section ∷ p.position ∷ []
 fault_details (Table f) = table_details f
 fault_details (Journal f) = journal_details f

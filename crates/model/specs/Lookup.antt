@@ -5,6 +5,7 @@ use Rattle.codec.specs.Kinds.{Kinds}
 use Rattle.table.specs.declared.pair.Head.{Head}
 use Rattle.table.specs.declared.pair.Head.TheVariants.{Vacant, Latest, Equal}
 use Rattle.table.specs.Store.{TableMeaning}
+use Rattle.journal.specs.Places.{place}
 use Rattle.journal.specs.declared.fault.Cursor.{Cursor}
 use Rattle.journal.specs.declared.fault.JournalFault.{JournalFault}
 use Rattle.journal.specs.declared.fault.JournalFault.TheVariants.{NoRow}
@@ -26,16 +27,16 @@ rows_below rows (suc s) = rows_below rows s + length (rows s)
 module _ {K V : Type 0} (kinds : Kinds K V) (rows : ℕ → List (Row K)) (k : K) where
   -- one row met, at each 14, then where the key differs 15; `on` goes on from a place
   abbrev pub met : ℕ → ℕ → (ℕ → ℕ → Result (Option Cursor) Fault) → Option (Row K) → Result (Option Cursor) Fault
-  met s p on None = Err (Journal (NoRow s p))
+  met s p on None = Err (Journal (NoRow (place s p)))
   met s p on (Some r) =
       cond (bytes_eq (kinds.bytes r.key) (kinds.bytes k))
       (Ok (Some (record { section = s; offset = stored_bytes (take p (rows s)); size = length r.stored })))
       (cond (has_no_next r) (Ok None)
-      (cond (earlier r.next_section r.next_position s p) (on r.next_section r.next_position) (Err (NotEarlier s p))))
+      (cond (earlier r.next_section r.next_position s p) (on r.next_section r.next_position) (Err (NotEarlier (place s p)))))
 
   -- rows met from a place; each turn takes one of the fuel, and there are never more turns than rows up to the place
   abbrev pub walk : ℕ → ℕ → ℕ → Result (Option Cursor) Fault
-  walk zero s p = Err (Journal (NoRow s p))
+  walk zero s p = Err (Journal (NoRow (place s p)))
   walk (suc fuel) s p = met s p (λ a b. walk fuel a b) (row_at (rows s) p)
 
   -- from the head of a pair
