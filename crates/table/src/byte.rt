@@ -1,16 +1,17 @@
 // A table in lent bytes, 29 to an entry. Each change is durable at once.
-ghost use Rattle.std.specs.Prelude.{◌≡◌, ◌-◌, ◌≤◌, [], ◌∷◌, ◌++◌, length, take, drop, replicate, Ok};
+ghost use Rattle.std.specs.Prelude.{◌≡◌, [], ◌∷◌, Ok};
 ghost use Rattle.table.specs.Lent.{IsByteGood, byte_means, byte_most, making_check};
 
 use crate::entry::Entry;
 use crate::fault::TableFault;
-use crate::store::Table;
+use crate::store::{Table, find_place};
 use codec::fill_part;
 
 #[derive(Drop)]
 pub struct ByteTable<'a> {
     bytes: &'a mut [u8],
     entries: usize,
+    ghost ok: { IsByteGood bytes.now entries },
 }
 
 impl<'a> ByteTable<'a> {
@@ -31,7 +32,6 @@ impl<'a> ByteTable<'a> {
         ensures same { result.bytes.ghost_name ≡ bytes.entry.ghost_name }
         ensures bytes { result.bytes.now ≡ bytes.old }
         ensures entries { result.entries ≡ entries }
-        ensures good { IsByteGood result.bytes.now result.entries }
     {
         ByteTable {
             bytes,
@@ -40,10 +40,9 @@ impl<'a> ByteTable<'a> {
     }
 }
 
+#[tactic(auto, using(crate::proofs::InBytes::in_bytes), unfolding(crate::specs::Lent::entry_at))]
 impl<'a> Table for ByteTable<'a> {
     ghost means = { λ t. byte_means t.bytes.now t.entries };
-
-    ghost good = { λ t. IsByteGood t.bytes.now t.entries };
 
     ghost lent = { λ t. t.bytes.ghost_name ∷ [] };
 
@@ -56,24 +55,18 @@ impl<'a> Table for ByteTable<'a> {
     }
 
     fn read(&self, index: u64) -> Result<Entry, TableFault> {
-        if index >= self.entries as u64 {
-            return Err(TableFault::PastEnd(index));
-        }
-        let at = 29 * index as usize;
+        let at = 29 * find_place(index, self.entries)?;
         Ok(Entry::decode(&self.bytes[at..at + 29]))
     }
 
     fn write(&mut self, index: u64, entry: Entry) -> Result<(), TableFault> {
-        if index >= self.entries as u64 {
-            return Err(TableFault::PastEnd(index));
-        }
-        let at = 29 * index as usize;
+        let at = 29 * find_place(index, self.entries)?;
         entry.encode(&mut self.bytes[at..at + 29]);
         Ok(())
     }
 
     fn resize(&mut self, count: u64) -> Result<(), TableFault> {
-        if count > (self.bytes.len() / 29) as u64 {
+        if count > self.most() {
             return Err(TableFault::TooMany);
         }
         let count = count as usize;

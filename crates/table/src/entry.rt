@@ -1,14 +1,12 @@
 // An entry of the table, 29 bytes: where the newest row of a chain lies, since which epoch, and how many rows were added
 // to the chain since its pair was last moved.
 ghost use Rattle.std.specs.Prelude.{◌≡◌, length};
-ghost use Rattle.codec.specs.Bytes.{be};
-ghost use Rattle.crc32c.specs.Crc.{register};
-ghost use Rattle.table.specs.Entries.{checks, empty, entry, entry_bytes, entry_check, entry_read, failing, is_empty, whole};
+ghost use Rattle.table.specs.Entries.{checks, entry, entry_bytes, entry_check, entry_read, failing, is_empty, of_epoch, whole};
 
 use codec::Number;
-use crc32c::{START, finish, update};
+use crc32c::checksum;
 
-#[derive(Clone, Copy, PartialEq, Eq)]
+#[derive(Clone, Copy, PartialEq, Eq, Debug)]
 pub struct Entry {
     pub epoch: u64,
     pub section: u64,
@@ -26,58 +24,50 @@ pub const EMPTY: Entry = Entry {
     crc: 0,
 };
 
-// The check's register after a number of 8 bytes.
-fn update_u64(state: u32, n: u64) -> u32
-    ensures { result ≡ register state (be 8 n) }
-{
-    update(state, &u64::to_be_bytes(n))
-}
-
-fn update_u8(state: u32, n: u8) -> u32
-    ensures { result ≡ register state (be 1 n) }
-{
-    update(state, &u8::to_be_bytes(n))
-}
-
-// The check of an entry's first 25 bytes.
-fn compute_crc(epoch: u64, section: u64, position: u64, added: u8) -> u32
-    ensures { result ≡ entry_check epoch section position added }
-{
-    let state = update_u64(START, epoch);
-    let state = update_u64(state, section);
-    let state = update_u64(state, position);
-    finish(update_u8(state, added))
-}
-
 impl Entry {
     // The whole entry of these numbers.
     pub fn new(epoch: u64, section: u64, position: u64, added: u8) -> Entry
         ensures { result ≡ entry epoch section position added }
     {
-        let crc = compute_crc(epoch, section, position, added);
-        Entry {
+        let entry = Entry {
             epoch,
             section,
             position,
             added,
-            crc,
+            crc: 0,
+        };
+        Entry {
+            crc: entry.compute_crc(),
+            ..entry
         }
+    }
+
+    // The check of all that stands before it: the first 25 bytes.
+    fn compute_crc(&self) -> u32
+        ensures { result ≡ entry_check self.now.epoch self.now.section self.now.position self.now.added }
+    {
+        let mut bytes = [0u8; 29];
+        self.encode(&mut bytes);
+        checksum(&bytes[0..25])
     }
 
     pub fn is_empty(&self) -> bool
         ensures { result ≡ is_empty self.now }
     {
-        self.epoch == 0
-            && self.section == 0
-            && self.position == 0
-            && self.added == 0
-            && self.crc == 0
+        *self == EMPTY
+    }
+
+    // Not empty, and of this epoch.
+    pub(crate) fn is_of(&self, epoch: u64) -> bool
+        ensures { result ≡ of_epoch epoch self.now }
+    {
+        !self.is_empty() && self.epoch == epoch
     }
 
     fn checks(&self) -> bool
         ensures { result ≡ checks self.now }
     {
-        self.crc == compute_crc(self.epoch, self.section, self.position, self.added)
+        self.crc == self.compute_crc()
     }
 
     // Whole: not empty, and its check is right.

@@ -1,11 +1,10 @@
 // A table in two lent tables of entries, working and durable. A change reaches the durable one by a sync.
-ghost use Rattle.std.specs.Prelude.{◌≡◌, ◌-◌, ◌≤◌, [], ◌∷◌, ◌++◌, length, take, drop, replicate, Ok};
-ghost use Rattle.table.specs.Entries.{empty};
+ghost use Rattle.std.specs.Prelude.{◌≡◌, [], ◌∷◌, ◌++◌, take, drop, Ok};
 ghost use Rattle.table.specs.Lent.{making_check, IsStagedGood, staged_means, staged_most};
 
 use crate::entry::{EMPTY, Entry};
 use crate::fault::TableFault;
-use crate::store::Table;
+use crate::store::{Table, find_place};
 use codec::fill_part;
 
 #[derive(Drop)]
@@ -14,6 +13,7 @@ pub struct StagedTable<'a> {
     durable: &'a mut [Entry],
     len: usize,
     durable_len: usize,
+    ghost ok: { IsStagedGood working.now durable.now len durable_len },
 }
 
 impl<'a> StagedTable<'a> {
@@ -37,7 +37,6 @@ impl<'a> StagedTable<'a> {
         ensures durable { result.durable.now ≡ durable.old }
         ensures len { result.len ≡ entries }
         ensures durable_len { result.durable_len ≡ entries }
-        ensures good { IsStagedGood result.working.now result.durable.now result.len result.durable_len }
     {
         let len = entries as usize;
         working[0..len].copy_from_slice(&durable[0..len]);
@@ -53,8 +52,6 @@ impl<'a> StagedTable<'a> {
 impl<'a> Table for StagedTable<'a> {
     ghost means = { λ t. staged_means t.working.now t.durable.now t.len t.durable_len };
 
-    ghost good = { λ t. IsStagedGood t.working.now t.durable.now t.len t.durable_len };
-
     ghost lent = { λ t. t.working.ghost_name ∷ (t.durable.ghost_name ∷ []) };
 
     fn len(&self) -> u64 {
@@ -66,22 +63,18 @@ impl<'a> Table for StagedTable<'a> {
     }
 
     fn read(&self, index: u64) -> Result<Entry, TableFault> {
-        if index >= self.len as u64 {
-            return Err(TableFault::PastEnd(index));
-        }
-        Ok(self.working[index as usize])
+        let at = find_place(index, self.len)?;
+        Ok(self.working[at])
     }
 
     fn write(&mut self, index: u64, entry: Entry) -> Result<(), TableFault> {
-        if index >= self.len as u64 {
-            return Err(TableFault::PastEnd(index));
-        }
-        self.working[index as usize] = entry;
+        let at = find_place(index, self.len)?;
+        self.working[at] = entry;
         Ok(())
     }
 
     fn resize(&mut self, count: u64) -> Result<(), TableFault> {
-        if count > self.working.len() as u64 || count > self.durable.len() as u64 {
+        if count > self.most() {
             return Err(TableFault::TooMany);
         }
         let count = count as usize;

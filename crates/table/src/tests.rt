@@ -6,6 +6,7 @@ ghost use Rattle.table.specs.Lent.{entries_in};
 use crate::{
     ByteTable, EMPTY, Entry, Head, StagedTable, Table, TableFault, read_latest_entry, read_table,
 };
+use std::process::Abort;
 use std::test::Fail;
 
 #[test]
@@ -15,67 +16,53 @@ fn damaged(rt: HostRuntime) {
     assert!(rt; EMPTY.is_empty() && Entry::decode(&bytes).is_empty());
     whole.encode(&mut bytes);
     assert!(rt; whole.is_valid() && !whole.is_failing());
-    assert!(rt; Entry::decode(&bytes) == whole);
+    assert_eq!(rt; Entry::decode(&bytes), whole);
     for at in 0..29usize {
         let mut other = bytes;
         other[at] ^= 0x10;
         let entry = Entry::decode(&other);
         assert!(rt; entry.is_failing() && !entry.is_valid() && !entry.is_empty());
-        assert!(rt; matches!(read_latest_entry(&entry, &whole), Head::Latest(e) if e == whole));
+        assert_eq!(rt; read_latest_entry(&entry, &whole), Head::Latest(whole));
     }
-    assert!(rt;
-        matches!(
-            read_latest_entry(&whole, &Entry::new(5, 1, 9, 9)),
-            Head::Equal
-        )
+    assert_eq!(rt;
+        read_latest_entry(&whole, &Entry::new(5, 1, 9, 9)),
+        Head::Equal
     );
-    assert!(rt; matches!(read_latest_entry(&whole, &EMPTY), Head::Latest(e) if e == whole));
-    assert!(rt; matches!(read_latest_entry(&EMPTY, &EMPTY), Head::Vacant));
-}
-
-// Unlike an assertion, what fails here is answered, and so a function that asks it still owes its clauses.
-fn check(holds: bool) -> Result<(), Fail> {
-    if holds {
-        Ok(())
-    } else {
-        Err(Fail::new("the table answered something else"))
-    }
+    assert_eq!(rt; read_latest_entry(&whole, &EMPTY), Head::Latest(whole));
+    assert_eq!(rt; read_latest_entry(&EMPTY, &EMPTY), Head::Vacant);
 }
 
 // Counts at their limits.
-fn limits<T: Table>(table: &mut T) -> Result<(), Fail>
-    requires { T.good table.old }
-    ensures { T.good table.new }
-{
+fn limits<T: Table>(rt: &impl Abort, table: &mut T) {
     let most = table.most();
-    check(table.resize(u64::MAX) == Err(TableFault::TooMany))?;
-    check(table.resize(most.saturating_add(1)) == Err(TableFault::TooMany))?;
-    check(table.resize(most) == Ok(()))?;
-    check(table.len() == most)?;
-    check(table.write(most, EMPTY) == Err(TableFault::PastEnd(most)))?;
-    check(table.read(u64::MAX) == Err(TableFault::PastEnd(u64::MAX)))?;
-    check(table.resize(0) == Ok(()))?;
-    check(read_table(table, 0) == Err(TableFault::PastEnd(0)))
+    assert_eq!(rt; table.resize(u64::MAX), Err(TableFault::TooMany));
+    assert_eq!(rt;
+        table.resize(most.saturating_add(1)),
+        Err(TableFault::TooMany)
+    );
+    assert_eq!(rt; table.resize(most), Ok(()));
+    assert_eq!(rt; table.len(), most);
+    assert_eq!(rt; table.write(most, EMPTY), Err(TableFault::PastEnd(most)));
+    assert_eq!(rt; table.read(u64::MAX), Err(TableFault::PastEnd(u64::MAX)));
+    assert_eq!(rt; table.resize(0), Ok(()));
+    assert_eq!(rt; read_table(table, 0), Err(TableFault::PastEnd(0)));
 }
 
 // What is written is read, a resize drops it, and entries that are added are empty.
-fn script<T: Table>(table: &mut T) -> Result<(), Fail>
-    requires { T.good table.old }
-    ensures { T.good table.new }
-{
+fn script<T: Table>(rt: &impl Abort, table: &mut T) {
     let one = Entry::new(1, 0, 7, 1);
     let two = Entry::new(2, 0, 8, 2);
-    check(table.resize(4) == Ok(()))?;
-    check(table.write(2, one) == Ok(()))?;
-    check(table.write(3, two) == Ok(()))?;
-    check(read_table(table, 1) == Ok((one, two)))?;
-    check(table.resize(3) == Ok(()))?;
-    check(read_table(table, 1) == Err(TableFault::PastEnd(3)))?;
-    check(table.resize(4) == Ok(()))?;
-    check(read_table(table, 1) == Ok((one, EMPTY)))?;
-    check(read_table(table, 0) == Ok((EMPTY, EMPTY)))?;
+    assert_eq!(rt; table.resize(4), Ok(()));
+    assert_eq!(rt; table.write(2, one), Ok(()));
+    assert_eq!(rt; table.write(3, two), Ok(()));
+    assert_eq!(rt; read_table(table, 1), Ok((one, two)));
+    assert_eq!(rt; table.resize(3), Ok(()));
+    assert_eq!(rt; read_table(table, 1), Err(TableFault::PastEnd(3)));
+    assert_eq!(rt; table.resize(4), Ok(()));
+    assert_eq!(rt; read_table(table, 1), Ok((one, EMPTY)));
+    assert_eq!(rt; read_table(table, 0), Ok((EMPTY, EMPTY)));
     table.sync();
-    check(table.read(2) == Ok(one))
+    assert_eq!(rt; table.read(2), Ok(one));
 }
 
 // 200 bytes are six entries and 26 bytes more.
@@ -86,9 +73,9 @@ fn bytes(rt: HostRuntime) -> Result<(), Fail> {
     ByteTable::check(&bytes, 0)?;
     let mut table = ByteTable::new(&mut bytes, 0);
     assert_eq!(rt; table.most(), 6);
-    limits(&mut table)?;
-    script(&mut table)?;
-    assert!(rt; bytes[29 * 2 + 7] == 1);
+    limits(&rt, &mut table);
+    script(&rt, &mut table);
+    assert_eq!(rt; bytes[29 * 2 + 7], 1);
     assert_eq!(rt; TableFault::TooMany.number(), 8);
     assert_eq!(rt; TableFault::PastEnd(3).number(), 19);
     Ok(())
@@ -106,11 +93,12 @@ fn staged(rt: HostRuntime) -> Result<(), Fail> {
     );
     StagedTable::check(&working, &durable, 1)?;
     let mut table = StagedTable::new(&mut working, &mut durable, 1);
-    assert!(rt; table.read(0) == Ok(old));
-    limits(&mut table)?;
-    script(&mut table)?;
-    assert!(rt; durable[2] == Entry::new(1, 0, 7, 1));
-    assert!(rt; durable[3] == EMPTY && durable[0] == EMPTY);
+    assert_eq!(rt; table.read(0), Ok(old));
+    limits(&rt, &mut table);
+    script(&rt, &mut table);
+    assert_eq!(rt; durable[2], Entry::new(1, 0, 7, 1));
+    assert_eq!(rt; durable[3], EMPTY);
+    assert_eq!(rt; durable[0], EMPTY);
     Ok(())
 }
 
@@ -121,7 +109,7 @@ fn unsynced(rt: HostRuntime) {
     let mut durable = [EMPTY; 2];
     let mut table = StagedTable::new(&mut working, &mut durable, 2);
     assert_eq!(rt; table.write(0, Entry::new(1, 0, 7, 1)), Ok(()));
-    assert!(rt; durable[0] == EMPTY);
+    assert_eq!(rt; durable[0], EMPTY);
 }
 
 // Whoever lent the bytes knows what they hold once the table is let go.
@@ -137,5 +125,5 @@ fn lent_back(bytes: &mut [u8]) -> bool
 fn lent(rt: HostRuntime) {
     let mut bytes = [7u8; 60];
     assert!(rt; lent_back(&mut bytes));
-    assert!(rt; bytes[28] == 7 && bytes[29] == 0 && bytes[57] == 0 && bytes[58] == 7);
+    assert_eq!(rt; (bytes[28], bytes[29], bytes[57], bytes[58]), (7, 0, 0, 7));
 }

@@ -1,14 +1,7 @@
-use Rattle.std.proofs.Common.{rules}
-use Rattle.table.proofs.InTables.{staged_answer, staged_write, staged_still}
+use Rattle.std.proofs.Common.{arith}
+use Rattle.std.proofs.lemmas.Grind.{common_steps}
+use Rattle.std.proofs.Math.Seq.{take-set-lt}
 use Rattle.table.proofs.staged.StagedTableTable.write.Goals as goal
 
-pub returns : goal.returns
-returns c =
-    let s = c.args.self.now in
-    let at = c.if-index-self.false in
-    record {
-      answer = staged_answer s.working.now s.durable.now s.len s.durable_len c.args.index c.requires at;
-      after = staged_write s.working.now s.durable.now s.len s.durable_len c.args.index c.requires at c.args.entry;
-      good = staged_still s.working.now s.durable.now s.len s.durable_len c.args.index c.requires at c.args.entry;
-      same = search rules;
-    }
+pub returns-clause-after : goal.returns-clause-after
+returns-clause-after c = grind (arith, common_steps, take-set-lt)
