@@ -6,7 +6,7 @@ ghost use Rattle.std.proofs.Common.{rules, arith};
 
 use crate::key::Key;
 
-#[derive(Clone, Copy, PartialEq, Eq, Debug)]
+#[derive(Clone, Copy)]
 pub struct Fingerprint {
     pub digest: [u8; 32],
     ghost ok: { (length digest ≡ 32) × (all_bytes digest ≡ true) },
