@@ -1,40 +1,13 @@
--- Rows with zeros behind them, and what writing behind them or cutting them off makes of the bytes.
-use Rattle.std.proofs.Common.{◌≡◌, ℕ, suc, ◌+◌, ◌-◌, ◌≤◌, List, [], ◌∷◌, ◌++◌, length, take, drop, replicate, sym, refl, ap, ◌∙◌, subst, append_assoc, arith, length-append}
+-- Rows with zeros behind them, and bytes in good order.
+use Rattle.std.proofs.Common.{◌≡◌, ℕ, suc, ◌-◌, ◌≤◌, List, [], ◌∷◌, ◌++◌, length, take, drop, replicate, sym, refl, ap, ◌∙◌, append_assoc, arith, length-append}
 use lib.ListN.{length-replicate}
-use Rattle.std.proofs.lemmas.List.{take_at, drop_at, replicate-append-replicate}
+use Rattle.std.proofs.lemmas.List.{drop_at, length-take-le, replicate-append-replicate}
 use Rattle.journal.specs.Flat.{Ordered, sections_from}
 use Rattle.journal.specs.Log.{LogRow, Rising, Writable, log_bytes, row_bytes, row_len}
 use Rattle.log_journal.specs.Kept.{IsLogGood, log_end, kept_row, rows_from, rows_in, section_in}
 use Rattle.journal.proofs.Fields.{look_written, length_row}
 use Rattle.journal.proofs.ReadBack.{look_zeros}
 use Rattle.log_journal.proofs.GoodRows.{rows_shown, shown_rows}
-
--- rows that were written are the good rows
-pub rows_written : (w last n : ℕ) (rs : List LogRow) → Rising w last rs → rows_from w last (log_bytes rs ++ replicate n 0) ≡ rs
-rows_written w last n [] h = rows_shown w last 0 (replicate n 0) ∙ ap (shown_rows w (replicate n 0)) (look_zeros w last 0 n)
-rows_written w last n (r ∷ rs) h =
-    let behind : List ℕ = log_bytes rs ++ replicate n 0 in
-    ap (rows_from w last) (append_assoc (row_bytes r) (log_bytes rs) (replicate n 0))
-    ∙ rows_shown w last 0 (row_bytes r ++ behind)
-    ∙ ap (shown_rows w (row_bytes r ++ behind)) (look_written w r h.0 behind last 0 h.1)
-    ∙ ap (λ xs. r ∷ rows_from w r.section xs) (drop_at (row_bytes r) behind (row_len w (length r.value)) (length_row w r h.0 []))
-    ∙ ap (λ xs. r ∷ xs) (rows_written w r.section n rs h.2)
-
--- so bytes that are such rows, and zeros behind them, are in good order
-module _ (w n : ℕ) (bs : List ℕ) (rs : List LogRow) (h : Rising w 0 rs) (is : bs ≡ log_bytes rs ++ replicate n 0) where
-  pub rows_are : rows_in w bs ≡ rs
-  rows_are = ap (rows_in w) is ∙ rows_written w 0 n rs h
-
-  pub good_are : IsLogGood w bs (length (log_bytes rs))
-  good_are =
-      let e = rows_are in
-      let l : length bs ≡ length (log_bytes rs) + n = ap length is ∙ length-append (log_bytes rs) (replicate n 0) ∙ ap (λ m. length (log_bytes rs) + m) (length-replicate n 0) in
-      let m : length bs - length (log_bytes rs) ≡ n = omega arith in
-      record {
-        ends = ap (λ xs. length (log_bytes xs)) (sym e);
-        zeros = is ∙ ap (λ k. log_bytes rs ++ replicate k 0) (sym m) ∙ ap (λ xs. log_bytes xs ++ replicate (length bs - length (log_bytes xs)) 0) (sym e);
-        rising = subst (Rising w 0) (sym e) h;
-      }
 
 -- ---- lists of rows
 
@@ -60,25 +33,56 @@ module _ {K : Type 0} (decoding : List ℕ → K) (w : ℕ) (r : LogRow) (ok : W
   rising_more [] h top = (ok, omega arith, tt)
   rising_more (x ∷ xs) h top = rising_behind 0 (x ∷ xs) h top
 
--- ---- bytes that are changed
+-- ---- rows and zeros
 
--- zeros from the end of p up to zeros
-pub zeroed : (bs p q : List ℕ) (e to : ℕ) → bs ≡ p ++ q → length p ≡ e → e ≤ to → to ≤ length bs → drop to bs ≡ replicate (length bs - to) 0 →
-    take e bs ++ (replicate (to - e) 0 ++ drop to bs) ≡ p ++ replicate (length bs - e) 0
-zeroed bs p q e to is l h k z =
-    let front : take e bs ≡ p = ap (take e) is ∙ take_at p q e l in
-    let back : replicate (to - e) 0 ++ drop to bs ≡ replicate (length bs - e) 0 =
-    ap (λ xs. replicate (to - e) 0 ++ xs) z ∙ replicate-append-replicate (to - e) (length bs - to) 0 ∙ ap (λ n. replicate n 0) (omega arith) in
-    λ i. front i ++ back i
+-- rows that were written are the good rows
+rows_written : (w last n : ℕ) (rs : List LogRow) → Rising w last rs → rows_from w last (log_bytes rs ++ replicate n 0) ≡ rs
+rows_written w last n [] h = rows_shown w last 0 (replicate n 0) ∙ ap (shown_rows w (replicate n 0)) (look_zeros w last 0 n)
+rows_written w last n (r ∷ rs) h =
+    let behind : List ℕ = log_bytes rs ++ replicate n 0 in
+    ap (rows_from w last) (append_assoc (row_bytes r) (log_bytes rs) (replicate n 0))
+    ∙ rows_shown w last 0 (row_bytes r ++ behind)
+    ∙ ap (shown_rows w (row_bytes r ++ behind)) (look_written w r h.0 behind last 0 h.1)
+    ∙ ap (λ xs. r ∷ rows_from w r.section xs) (drop_at (row_bytes r) behind (row_len w (length r.value)) (length_row w r h.0 []))
+    ∙ ap (λ xs. r ∷ xs) (rows_written w r.section n rs h.2)
 
--- good order, taken apart
-module _ (w used : ℕ) (bs : List ℕ) (good : IsLogGood w bs used) where
+-- so bytes that are such rows, and zeros behind them, are in good order
+module _ (w n : ℕ) (bs : List ℕ) (rs : List LogRow) (h : Rising w 0 rs) (is : bs ≡ log_bytes rs ++ replicate n 0) where
+  pub rows_are : rows_in w bs ≡ rs
+  rows_are = ap (rows_in w) is ∙ rows_written w 0 n rs h
+
+  pub good_are : (used : ℕ) → used ≡ length (log_bytes rs) → IsLogGood w bs used
+  good_are used end =
+      let long : n ≡ length bs - length (log_bytes rs) = omega (arith, ap length is, length-append (log_bytes rs) (replicate n 0), length-replicate {A = ℕ} n 0) in
+      record {
+        ends = rw rows_are end;
+        zeros = rw rows_are (is ∙ ap (λ k. log_bytes rs ++ replicate k 0) long);
+        rising = rw rows_are h;
+      }
+
+-- and so are rows in front of bytes, once zeros are put behind them up to zeros
+module _ (w : ℕ) (rs : List LogRow) (h : Rising w 0 rs) (e to : ℕ) (bs new : List ℕ) (front : take e bs ≡ log_bytes rs) (up : e ≤ to) (within : to ≤ length bs) (behind : drop to bs ≡ replicate (length bs - to) 0)
+    (is : new ≡ take e bs ++ (replicate (to - e) 0 ++ drop to bs)) where
+  pub zeroed : new ≡ log_bytes rs ++ replicate (length bs - e) 0
+  zeroed = rw (is, front, behind, replicate-append-replicate) (ap (λ n. log_bytes rs ++ replicate n 0) (omega arith))
+
+  pub zeroed_rows : rows_in w new ≡ rs
+  zeroed_rows = rows_are w (length bs - e) new rs h zeroed
+
+  pub zeroed_good : IsLogGood w new e
+  zeroed_good = good_are w (length bs - e) new rs h zeroed e (omega (arith, length-take-le e bs, ap length front))
+
+-- ---- good order, taken apart
+
+module _ {w used : ℕ} {bs : List ℕ} (good : IsLogGood w bs used) where
   pub used_within : used ≤ length bs
-  used_within =
-      let n = length bs - log_end w bs in
-      omega (arith, good.ends, ap length good.zeros, length-append (log_bytes (rows_in w bs)) (replicate n 0))
+  used_within = omega (arith, good.ends, ap length good.zeros, length-append (log_bytes (rows_in w bs)) (replicate (length bs - log_end w bs) 0))
 
   pub zeros_behind : drop used bs ≡ replicate (length bs - used) 0
   zeros_behind =
-      let n = length bs - log_end w bs in
-      ap (drop used) good.zeros ∙ drop_at (log_bytes (rows_in w bs)) (replicate n 0) used (sym good.ends) ∙ ap (λ m. replicate (length bs - m) 0) (sym good.ends)
+      ap (drop used) good.zeros
+      ∙ drop_at (log_bytes (rows_in w bs)) (replicate (length bs - log_end w bs) 0) used (sym good.ends)
+      ∙ ap (λ m. replicate (length bs - m) 0) (sym good.ends)
+
+  pub split_used : bs ≡ log_bytes (rows_in w bs) ++ drop used bs
+  split_used = good.zeros ∙ ap (λ xs. log_bytes (rows_in w bs) ++ xs) (ap (λ m. replicate (length bs - m) 0) (sym good.ends) ∙ sym zeros_behind)

@@ -4,6 +4,7 @@ use Rattle.std.specs.Int.Digits.{AllBelowBase}
 use Rattle.std.proofs.lemmas.List.{drop-drop}
 use Rattle.std.proofs.lemmas.Bool.{cond_both}
 use Rattle.codec.specs.Rounds.{under_drop, under_of, under_take}
+use Rattle.journal.specs.declared.place.Place.{Place}
 use Rattle.journal.specs.declared.reader.LogReader.{LogReader}
 use Rattle.journal.specs.declared.step.Step.{Step}
 use Rattle.journal.specs.declared.step.Step.TheVariants.{Row, Blank, Spoiled}
@@ -57,7 +58,7 @@ module _ {K : Type 0} (w : ℕ) (log : List ℕ) (was : LogReader K) (same : was
         (look_sound w was.last was.at (drop was.at log) (under_drop was.at log (under_of log u)))
 
   -- none is shown
-  pub no_rows : (s : Step) → shown s ≡ look w was.last was.at (drop was.at was.log.now) → ((b t : ℕ) (k : Bor (List ℕ)) (ns np : ℕ) (v : Bor (List ℕ)) → s ≡ Row b t k ns np v → ⊥) → left_in w log was ≡ []
-  no_rows (Row b t k ns np v) shows none = absurd (none b t k ns np v refl)
+  pub no_rows : (s : Step) → shown s ≡ look w was.last was.at (drop was.at was.log.now) → ((b t : ℕ) (k : Bor (List ℕ)) (n : Place) (v : Bor (List ℕ)) → s ≡ Row b t k n v → ⊥) → left_in w log was ≡ []
+  no_rows (Row b t k n v) shows none = absurd (none b t k n v refl)
   no_rows (Blank b) shows none = rows_there (blank b) shows
   no_rows (Spoiled b) shows none = rows_there (spoiled b) shows

@@ -1,5 +1,7 @@
 -- What bytes keep as a journal: the good rows at their front.
-use Rattle.std.specs.Prelude.{◌≡◌, ℕ, zero, suc, ◌+◌, ◌-◌, Bool, cond, ◌&&◌, List, [], ◌∷◌, ◌++◌, length, drop, replicate, Some, None, Ok, Err, Option, Result, ◌==◌, nat_le, nat_lt}
+use Rattle.std.specs.Prelude.{◌≡◌, ℕ, zero, suc, ◌-◌, cond, ◌&&◌, List, [], ◌∷◌, ◌++◌, length, drop, replicate, Some, None, Option, ◌==◌, nat_lt}
+use Rattle.std.specs.Coded.{Unit-prop}
+use Rattle.std.proofs.Props.{props}
 use Rattle.journal.specs.Rows.{Row, JournalMeaning, stored_of}
 use Rattle.journal.specs.Flat.{flat_means}
 use Rattle.journal.specs.Log.{LogRow, Rising, is_row, log_bytes, row_of, row_len, section_of, value_of}
@@ -48,11 +50,10 @@ pub record IsLogGood (w : ℕ) (bs : List ℕ) (used : ℕ) : Type 0 where
   pub zeros : bs ≡ opened w bs
   pub rising : Rising w 0 (rows_in w bs)
 
--- a row fits where its bytes are free behind the last row
-abbrev pub log_space : ℕ → ℕ → List ℕ → ℕ → ℕ → Bool
-log_space used w bs section n = nat_le (used + row_len w n) (length bs)
+-- good order has at most one proof
+Rising-prop : (w last : ℕ) (rs : List LogRow) → IsProp (Rising w last rs)
+Rising-prop w last [] = Unit-prop
+Rising-prop w last (r ∷ rs) = Prim.hlevel (props, Rising-prop w r.section rs)
 
--- one number where a call was refused, another where it was not
-abbrev pub either : {A F : Type 0} → Result A F → ℕ → ℕ → ℕ
-either (Err f) refused done = refused
-either (Ok a) refused done = done
+pub IsLogGood-prop : (w : ℕ) (bs : List ℕ) (used : ℕ) → IsProp (IsLogGood w bs used)
+IsLogGood-prop w bs used = Prim.hlevel (props, Rising-prop w 0 (rows_in w bs))

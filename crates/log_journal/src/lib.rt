@@ -1,7 +1,6 @@
 // A journal in one run of lent bytes: the rows of a log, one behind the other, and zeros behind them.
 #![tactic(auto)]
 
-mod place;
 mod store;
 #[cfg(test)]
 mod tests;

@@ -1,67 +1,15 @@
 // A journal in lent bytes: the log's rows, and zeros behind them. Each change is durable at once.
-ghost use Rattle.std.specs.Prelude.{◌≡◌, ◌+◌, ◌-◌, [], ◌∷◌, length, take};
-ghost use Rattle.journal.specs.Answers.{answered, append_after, append_answer, restore_after};
-ghost use Rattle.journal.specs.Rows.{apply, clear, restore_fault};
-ghost use Rattle.journal.specs.Log.{row_len};
-ghost use Rattle.log_journal.specs.Kept.{IsLogGood, either, log_end, log_means, log_space, opened, rows_in};
+ghost use Rattle.std.specs.Prelude.{◌≡◌, ◌+◌, ◌*◌, ◌/◌, ◌^◌, ◌<◌, ◌&&◌, [], ◌∷◌, length};
+ghost use Rattle.journal.specs.Answers.{answered, append_answer};
+ghost use Rattle.journal.specs.Flat.{cut};
+ghost use Rattle.journal.specs.Log.{log_bytes};
+ghost use Rattle.journal.specs.Rows.{in_limits, later_than, restore_fault, stored_of};
+ghost use Rattle.log_journal.specs.Kept.{IsLogGood, IsLogGood-prop, log_end, opened, rows_in, section_in};
 
-use crate::place::{place, restored_end, row_fits};
-use crate::walk::{end, highest, record_at, tally_of, value_at};
+use crate::walk::{Tally, cut_end, end, highest, record_at, tally_of, value_at};
 use codec::{DecodedKey, Key, Value, fill_part};
-use journal::{Cursor, Journal, JournalFault, Place, Record, row_size, write_row};
+use journal::{Cursor, Journal, JournalFault, Place, Record, in_limits, row_size, write_row};
 use std::marker::PhantomData;
-
-// Writes a row behind the rows, which take `used` bytes, where it has a place.
-fn append_row<K: DecodedKey, V: Value>(
-    bytes: &mut [u8],
-    used: usize,
-    section: u64,
-    key: &K,
-    next: Place,
-    value: &V,
-) -> Result<(u64, u64, u32), JournalFault>
-    requires { IsLogGood K.Key.WIDTH bytes.old used }
-    ensures answer { result ≡ append_answer (K.Key.WIDTH + 28) (log_means K.DecodedKey.decoding K.Key.WIDTH bytes.old) (log_space used K.Key.WIDTH bytes.old section (length (V.Value.encoding value.now))) section (V.Value.encoding value.now) }
-    ensures after { log_means K.DecodedKey.decoding K.Key.WIDTH bytes.new ≡ append_after (K.Key.WIDTH + 28) (log_means K.DecodedKey.decoding K.Key.WIDTH bytes.old) (log_space used K.Key.WIDTH bytes.old section (length (V.Value.encoding value.now))) section key.now next.section next.position (V.Value.encoding value.now) }
-    ensures good { IsLogGood K.Key.WIDTH bytes.new (either result used (used + row_len K.Key.WIDTH (length (V.Value.encoding value.now)))) }
-{
-    let answer = place::<K, V>(bytes, used, section, value)?;
-    let end = used + row_size::<K, V>(value);
-    write_row(
-        &mut bytes[used..end],
-        section,
-        key,
-        next,
-        value,
-    );
-    Ok(answer)
-}
-
-// Drops the rows that a restore does not keep, and answers where those that it keeps end.
-fn restore_rows<K: DecodedKey>(
-    bytes: &mut [u8],
-    used: usize,
-    section: u64,
-    size: u64,
-) -> Result<usize, JournalFault>
-    requires { IsLogGood K.Key.WIDTH bytes.old used }
-    ensures answer { result ≡ answered (restore_fault (K.Key.WIDTH + 28) (log_means K.DecodedKey.decoding K.Key.WIDTH bytes.old) section size) (log_end K.Key.WIDTH bytes.new) }
-    ensures after { log_means K.DecodedKey.decoding K.Key.WIDTH bytes.new ≡ restore_after (K.Key.WIDTH + 28) (log_means K.DecodedKey.decoding K.Key.WIDTH bytes.old) section size }
-    ensures good { IsLogGood K.Key.WIDTH bytes.new (either result used (log_end K.Key.WIDTH bytes.new)) }
-{
-    let end = restored_end::<K>(bytes, section, size)?;
-    fill_part(bytes, end, used, 0);
-    Ok(end)
-}
-
-// Drops all rows.
-fn clear_rows<K: DecodedKey>(bytes: &mut [u8], used: usize)
-    requires { IsLogGood K.Key.WIDTH bytes.old used }
-    ensures after { log_means K.DecodedKey.decoding K.Key.WIDTH bytes.new ≡ apply (K.Key.WIDTH + 28) (log_means K.DecodedKey.decoding K.Key.WIDTH bytes.old) clear }
-    ensures good { IsLogGood K.Key.WIDTH bytes.new 0 }
-{
-    fill_part(bytes, 0, used, 0);
-}
 
 // Its rows take the first `used` bytes.
 #[derive(Drop)]
@@ -69,7 +17,7 @@ pub struct LogJournal<'a, K: Key> {
     bytes: &'a mut [u8],
     used: usize,
     kind: PhantomData<K>,
-    ghost ok: { IsLogGood K.Key.WIDTH bytes.now used },
+    ghost ok: { IsLogGood K.Key.WIDTH bytes.now used } by { IsLogGood-prop K.Key.WIDTH bytes.now used },
 }
 
 impl<'a, K: Key> LogJournal<'a, K> {
@@ -91,15 +39,65 @@ impl<'a, K: Key> LogJournal<'a, K> {
     }
 }
 
-impl<'a, K: DecodedKey, V: Value> Journal<K, V> for LogJournal<'a, K> {
-    ghost means = { λ j. log_means K.DecodedKey.decoding K.Key.WIDTH j.bytes.now };
+impl<'a, K: DecodedKey> LogJournal<'a, K> {
+    ghost use Rattle.log_journal.specs.Held.{has_space, held};
 
-    ghost space = { λ j section n. log_space j.used K.Key.WIDTH j.bytes.now section n };
+    // Does a value's row fit behind the rows, in a section of so many rows and stored bytes?
+    fn has_place<V: Value>(&self, tally: Tally, value: &V) -> bool
+        requires { tally.rows * (K.Key.WIDTH + 28) < 2 ^ 64 }
+        ensures { result ≡ (has_space self.now (length (V.Value.encoding value.now)) && in_limits (K.Key.WIDTH + 28) tally.rows tally.bytes (length (stored_of (V.Value.encoding value.now)))) }
+    {
+        let size = K::WIDTH as u64 + 28;
+        let stored = value.encode_size() as u64 + 4;
+        row_size::<K, V>(value) <= self.bytes.len() - self.used
+            && in_limits(tally.rows, tally.bytes, size, stored)
+    }
+
+    // Has a higher section rows?
+    fn has_later(&self, section: u64) -> bool
+        ensures { result ≡ later_than section (held K.DecodedKey.decoding self.now) }
+    {
+        highest::<K>(self.bytes).is_some_and(|high| section < high)
+    }
+
+    // What an append answers: the new row's position, its value's offset and the size of its stored value.
+    fn place<V: Value>(&self, section: u64, value: &V) -> Result<(u64, u64, u32), JournalFault>
+        ensures { result ≡ append_answer (K.Key.WIDTH + 28) (held K.DecodedKey.decoding self.now) (has_space self.now (length (V.Value.encoding value.now))) section (V.Value.encoding value.now) }
+    {
+        if self.has_later(section) {
+            return Err(JournalFault::Below(section));
+        }
+        let tally = tally_of::<K>(self.bytes, section);
+        if !self.has_place(tally, value) {
+            return Err(JournalFault::Full(section));
+        }
+        Ok((tally.rows, tally.bytes, value.encode_size() as u32 + 4))
+    }
+
+    // Where the rows end that a restore keeps.
+    fn restored_end(&self, section: u64, bytes: u64) -> Result<usize, JournalFault>
+        ensures { result ≡ answered (restore_fault (K.Key.WIDTH + 28) (held K.DecodedKey.decoding self.now) section bytes) (length (log_bytes (cut section_in section (bytes / (K.Key.WIDTH + 28)) (rows_in K.Key.WIDTH self.now.bytes.now)))) }
+    {
+        let size = K::WIDTH as u64 + 28;
+        let tally = tally_of::<K>(self.bytes, section);
+        if tally.rows * size < bytes || bytes % size != 0 {
+            return Err(JournalFault::Restore(section));
+        }
+        Ok(cut_end::<K>(self.bytes, section, bytes / size))
+    }
+}
+
+impl<'a, K: DecodedKey, V: Value> Journal<K, V> for LogJournal<'a, K> {
+    ghost use Rattle.log_journal.specs.Held.{has_space, held};
+
+    ghost means = { held K.DecodedKey.decoding };
+
+    ghost space = { λ j section. has_space j };
 
     ghost lent = { λ j. j.bytes.ghost_name ∷ [] };
 
     fn fits(&self, section: u64, value: &V) -> bool {
-        row_fits::<K, V>(self.bytes, self.used, section, value)
+        self.has_place(tally_of::<K>(self.bytes, section), value)
     }
 
     fn append(
@@ -109,16 +107,10 @@ impl<'a, K: DecodedKey, V: Value> Journal<K, V> for LogJournal<'a, K> {
         next: Place,
         value: &V,
     ) -> Result<(u64, u64, u32), JournalFault> {
-        let used = self.used;
-        let answer = append_row(
-            self.bytes,
-            used,
-            section,
-            key,
-            next,
-            value,
-        )?;
-        self.used = used + row_size::<K, V>(value);
+        let answer = self.place(section, value)?;
+        let end = self.used + row_size::<K, V>(value);
+        write_row(&mut self.bytes[self.used..end], section, key, next, value);
+        self.used = end;
         Ok(answer)
     }
 
@@ -145,15 +137,14 @@ impl<'a, K: DecodedKey, V: Value> Journal<K, V> for LogJournal<'a, K> {
     fn sync(&mut self, first: u64, last: u64) {}
 
     fn restore(&mut self, section: u64, bytes: u64) -> Result<(), JournalFault> {
-        let used = self.used;
-        let end = restore_rows::<K>(self.bytes, used, section, bytes)?;
-        self.used = end;
+        let kept = self.restored_end(section, bytes)?;
+        fill_part(self.bytes, kept, self.used, 0);
+        self.used = kept;
         Ok(())
     }
 
     fn clear(&mut self) {
-        let used = self.used;
-        clear_rows::<K>(self.bytes, used);
+        fill_part(self.bytes, 0, self.used, 0);
         self.used = 0;
     }
 }

@@ -1,7 +1,7 @@
 // A journal in lent bytes.
 use crate::LogJournal;
 use codec::{Serial, Window};
-use journal::{Cursor, Journal, JournalFault, write_row};
+use journal::{Cursor, Journal, JournalFault, Place, write_row};
 
 // One row of 58 bytes: serial 7, the window 5 to 9, in section 3, with no next.
 fn one_row() -> [u8; 58] {
@@ -10,11 +10,14 @@ fn one_row() -> [u8; 58] {
         &mut log,
         3,
         &Serial { value: 7 },
-        u64::MAX,
-        u64::MAX,
+        Place::NONE,
         &Window::new(5, 9),
     );
     log
+}
+
+fn at(section: u64, position: u64) -> Place {
+    Place { section, position }
 }
 
 // The fault of a call, by its number; 0 where there is none.
@@ -26,9 +29,7 @@ fn fault<T: Drop>(answer: Result<T, JournalFault>) -> u8 {
 }
 
 // The highest section, and the sizes of section 3.
-fn sizes<J: Journal<Serial, Window>>(journal: &J) -> (Option<u64>, u64, u64)
-    requires { J.good journal.now }
-{
+fn sizes<J: Journal<Serial, Window>>(journal: &J) -> (Option<u64>, u64, u64) {
     (journal.highest(), journal.size(3), journal.value_end(3))
 }
 
@@ -57,18 +58,16 @@ fn appended(rt: HostRuntime) {
     let value = Window::new(5, 9);
     assert_eq!(rt; sizes(&journal), (None, 0, 0));
     assert!(rt; journal.fits(3, &value));
-    assert!(rt; matches!(journal.append(3, &key, 1, 2, &value), Ok((0, 0, 20))));
-    assert_eq!(rt; fault(journal.append(2, &key, 1, 2, &value)), 13);
-    assert!(rt; matches!(journal.append(3, &key, 3, 0, &value), Ok((1, 20, 20))));
-    assert_eq!(rt; fault(journal.append(3, &key, 1, 2, &value)), 10);
+    assert!(rt; matches!(journal.append(3, &key, at(1, 2), &value), Ok((0, 0, 20))));
+    assert_eq!(rt; fault(journal.append(2, &key, at(1, 2), &value)), 13);
+    assert!(rt; matches!(journal.append(3, &key, at(3, 0), &value), Ok((1, 20, 20))));
+    assert_eq!(rt; fault(journal.append(3, &key, at(1, 2), &value)), 10);
     assert_eq!(rt; sizes(&journal), (Some(3), 72, 40));
 }
 
 // What is kept of a row of serial 7 and the window 5 to 9: the next place and the value's place, and the window again.
-fn found<J: Journal<Serial, Window>>(journal: &J, position: u64) -> Option<(u64, u64, bool)>
-    requires { J.good journal.now }
-{
-    let Ok(record) = journal.get(3, position) else {
+fn found<J: Journal<Serial, Window>>(journal: &J, position: u64) -> Option<(u64, u64, bool)> {
+    let Ok(record) = journal.get(at(3, position)) else {
         return None;
     };
     let place = Cursor {
@@ -81,7 +80,7 @@ fn found<J: Journal<Serial, Window>>(journal: &J, position: u64) -> Option<(u64,
         Err(_) => false,
     };
     Some((
-        record.next_section,
+        record.next.section,
         record.value_offset,
         same && record.key.value == 7,
     ))
@@ -93,8 +92,8 @@ fn restored(rt: HostRuntime) {
     let mut journal = LogJournal::<Serial>::open(&mut bytes);
     let key = Serial { value: 7 };
     let value = Window::new(5, 9);
-    assert_eq!(rt; fault(journal.append(3, &key, 1, 2, &value)), 0);
-    assert_eq!(rt; fault(journal.append(3, &key, 3, 0, &value)), 0);
+    assert_eq!(rt; fault(journal.append(3, &key, at(1, 2), &value)), 0);
+    assert_eq!(rt; fault(journal.append(3, &key, at(3, 0), &value)), 0);
     assert_eq!(rt; found(&journal, 1), Some((3, 20, true)));
     assert_eq!(rt; found(&journal, 2), None);
     assert_eq!(rt; cut_back(&mut journal), (7, 7, 0));
@@ -103,10 +102,7 @@ fn restored(rt: HostRuntime) {
 }
 
 // Cuts section 3 back to one row of 36 bytes, and says what half a row, three rows and one were refused with.
-fn cut_back<J: Journal<Serial, Window>>(journal: &mut J) -> (u8, u8, u8)
-    requires { J.good journal.old }
-    ensures { J.good journal.new }
-{
+fn cut_back<J: Journal<Serial, Window>>(journal: &mut J) -> (u8, u8, u8) {
     (
         fault(journal.restore(3, 18)),
         fault(journal.restore(3, 108)),
@@ -122,10 +118,7 @@ fn cleared(rt: HostRuntime) {
     assert_eq!(rt; sizes(&journal), (None, 0, 0));
 }
 
-fn wipe<J: Journal<Serial, Window>>(journal: &mut J)
-    requires { J.good journal.old }
-    ensures { J.good journal.new }
-{
+fn wipe<J: Journal<Serial, Window>>(journal: &mut J) {
     journal.sync(0, 3);
     journal.clear();
 }

@@ -16,7 +16,7 @@ returns-in-None g c =
     let h = a.ensures in
     let s = c.args.section in
     let n = c.loop-own.left in
-    let r = log_row a.own a.key.now a.next_section a.next_position a.value.now in
+    let r = log_row a.own a.key.now a.next.section a.next.position a.value.now in
     let left = left_in w log c.step.new.self in
     let rows = next_rows w log c.loop-own.reader inv.0 c.step.new.self a.at r h.shown h.at h.last in
     let none = ap (cut section_in s n) rows ∙ cut_is s n r left ∙ ap (kept_by s r left) (sym c.in-None.ensures) in
@@ -26,7 +26,7 @@ pub loop-own-smaller : goal.loop-own-smaller
 loop-own-smaller g c =
     let a = c.in-Row in
     let h = a.ensures in
-    let r = log_row a.own a.key.now a.next_section a.next_position a.value.now in
+    let r = log_row a.own a.key.now a.next.section a.next.position a.value.now in
     next_less g.K.Key.WIDTH c.args.log.now c.loop-own.reader c.loop-own.invariant.0 c.step.new.self a.at r h.shown h.at h.log
 
 pub loop-own-preserved : goal.loop-own-preserved
@@ -41,7 +41,7 @@ loop-own-preserved g c =
     let s = c.args.section in
     let n = c.loop-own.left in
     let m = c.in-Some.rest in
-    let r = log_row a.own a.key.now a.next_section a.next_position a.value.now in
+    let r = log_row a.own a.key.now a.next.section a.next.position a.value.now in
     let at = next_at w log was inv.0 is a.at r h.shown h.at in
     let rows = next_rows w log was inv.0 is a.at r h.shown h.at h.last in
     let more = ap (cut section_in s n) rows ∙ cut_is s n r (left_in w log is) ∙ ap (kept_by s r (left_in w log is)) (sym c.in-Some.ensures) in

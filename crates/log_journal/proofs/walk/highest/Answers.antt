@@ -11,7 +11,7 @@ loop-section-preserved g c =
     let inv = c.loop-section.invariant in
     let a = c.in-Row in
     let h = a.ensures in
-    let r = log_row a.section a.key.now a.next_section a.next_position a.value.now in
+    let r = log_row a.section a.key.now a.next.section a.next.position a.value.now in
     let rows = next_rows g.K.Key.WIDTH c.args.log.now c.loop-section.reader inv.0 c.step.new.self a.at r h.shown h.at h.last in
     (h.log ∙ inv.0, sym (ap (sections_from section_in (kept_row g.K.DecodedKey.decoding) (above c.loop-section.highest)) rows) ∙ inv.1)
 

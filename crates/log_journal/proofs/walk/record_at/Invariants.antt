@@ -9,7 +9,7 @@ abbrev pub invariant-loop-own : goal.invariant-loop-own
 invariant-loop-own g l =
     (l.reader.log.now ≡ l.log)
     × (l.offset ≤ l.reader.at)
-    × (record_from l.offset (rows_of section_in (kept_row g.K.DecodedKey.decoding) l.section (left_in g.K.Key.WIDTH l.log l.reader)) l.left ≡ record_from 0 (rows_of section_in (kept_row g.K.DecodedKey.decoding) l.section (rows_in g.K.Key.WIDTH l.log)) l.position)
+    × (record_from l.offset (rows_of section_in (kept_row g.K.DecodedKey.decoding) l.place.section (left_in g.K.Key.WIDTH l.log l.reader)) l.left ≡ record_from 0 (rows_of section_in (kept_row g.K.DecodedKey.decoding) l.place.section (rows_in g.K.Key.WIDTH l.log)) l.place.position)
 
 abbrev pub decreases-loop-own : goal.decreases-loop-own
 decreases-loop-own g l = length l.log - l.reader.at

@@ -20,7 +20,7 @@ loop-section-preserved-then-section-cursor g c =
     let a = c.in-Row in
     let h = a.ensures in
     let s = c.args.cursor.section in
-    let r = log_row a.section a.key.now a.next_section a.next_position a.value.now in
+    let r = log_row a.section a.key.now a.next.section a.next.position a.value.now in
     let left = left_in w log is in
     let at = next_at w log was inv.0 is a.at r h.shown h.at in
     let rows = next_rows w log was inv.0 is a.at r h.shown h.at h.last in
@@ -38,7 +38,7 @@ returns-then-size-cursor g c =
     let a = c.in-Row in
     let h = a.ensures in
     let s = c.args.cursor.section in
-    let r = log_row a.section a.key.now a.next_section a.next_position a.value.now in
+    let r = log_row a.section a.key.now a.next.section a.next.position a.value.now in
     let left = left_in w log is in
     let at = next_at w log was inv.0 is a.at r h.shown h.at in
     let rows = next_rows w log was inv.0 is a.at r h.shown h.at h.last in
@@ -51,7 +51,7 @@ pub loop-section-smaller : goal.loop-section-smaller
 loop-section-smaller g c =
     let a = c.in-Row in
     let h = a.ensures in
-    let r = log_row a.section a.key.now a.next_section a.next_position a.value.now in
+    let r = log_row a.section a.key.now a.next.section a.next.position a.value.now in
     next_less g.K.Key.WIDTH c.args.log.now c.loop-section.reader c.loop-section.invariant.0 c.step.new.self a.at r h.shown h.at h.log
 
 pub loop-section-preserved : goal.loop-section-preserved
@@ -65,7 +65,7 @@ loop-section-preserved g c =
     let a = c.in-Row in
     let h = a.ensures in
     let s = c.args.cursor.section in
-    let r = log_row a.section a.key.now a.next_section a.next_position a.value.now in
+    let r = log_row a.section a.key.now a.next.section a.next.position a.value.now in
     let left = left_in w log is in
     let at = next_at w log was inv.0 is a.at r h.shown h.at in
     let rows = next_rows w log was inv.0 is a.at r h.shown h.at h.last in

@@ -1,25 +1,15 @@
-use Rattle.std.proofs.Common.{refl, arith}
+use Rattle.std.proofs.Common.{arith}
 use Rattle.log_journal.proofs.Changed.{end_within, open_bytes, open_good, open_rows}
 use Rattle.log_journal.proofs.store.LogJournal.open.Goals as goal
 
 pub fill_part-requires : goal.fill_part-requires
-fill_part-requires g c =
-    let f = c.end-used.ensures in
-    let within = end_within g.K.Key.WIDTH c.end-used.result c.args.bytes.now f.end f.front f.rising in
-    (omega arith, omega arith)
+fill_part-requires g c = let f = c.end-used.ensures in let within = end_within _ _ _ f.end f.front f.rising in (omega arith, omega arith)
 
-pub returns : goal.returns
-returns g c =
-    let w = g.K.Key.WIDTH in
-    let e = c.end-used.result in
-    let bs = c.args.bytes.now in
-    let f = c.end-used.ensures in
-    let new = c.fill_part.new.items in
-    let is = c.fill_part.ensures in
-    record {
-      same = refl;
-      bytes = open_bytes w e bs f.end f.front f.rising new is;
-      rows = open_rows w e bs f.end f.front f.rising new is;
-      used = f.end;
-      good = open_good w e bs f.end f.front f.rising new is;
-    }
+pub invariant_of-result : goal.invariant_of-result
+invariant_of-result g c = let f = c.end-used.ensures in record { ok = open_good _ _ _ f.end f.front f.rising _ c.fill_part.ensures }
+
+pub returns-clause-bytes : goal.returns-clause-bytes
+returns-clause-bytes g c = let f = c.end-used.ensures in open_bytes _ _ _ f.end f.front f.rising _ c.fill_part.ensures
+
+pub returns-clause-rows : goal.returns-clause-rows
+returns-clause-rows g c = let f = c.end-used.ensures in open_rows _ _ _ f.end f.front f.rising _ c.fill_part.ensures
