@@ -34,7 +34,8 @@ pub trait Key: Sized {
     ghost onto: { (bs : List ℕ) → length bs ≡ WIDTH → AllBelowBase 256 bs → (k : Self) × (bytes k ≡ bs) };
 }
 
-// Whether two keys are the same: true exactly when all their bytes are equal.
+// Whether two keys are the same: true exactly when all their bytes are equal. Not `==`: a kind of key owes no `Eq`, and
+// would owe a law that its `==` is this.
 pub fn same_key<K: Key>(a: &K, b: &K) -> bool
     ensures bytes { result ≡ bytes_eq (K.Key.bytes a.now) (K.Key.bytes b.now) }
     ensures key { Decides result (a.now ≡ b.now) }

@@ -6,6 +6,7 @@ pub mod value;
 // The most bytes of a Sealed.
 pub const SEALED_MOST: usize = 512;
 
+// No heap, and a fixed size: an array with its length beside it, zeros behind, so that equal bytes are equal values.
 #[derive(Clone, Copy)]
 pub struct Sealed {
     len: usize,

@@ -7,6 +7,7 @@ use crate::fault::TableFault;
 use crate::store::{Table, find_place};
 use codec::fill_part;
 
+// No heap: the memory is lent and of a fixed size, so the count of entries stands beside it.
 #[derive(Drop)]
 pub struct ByteTable<'a> {
     bytes: &'a mut [u8],

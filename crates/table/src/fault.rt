@@ -11,6 +11,7 @@ pub enum TableFault {
 }
 
 impl TableFault {
+    // The number by which the project knows the refusal; the enum is what code goes by.
     pub fn number(&self) -> u8
         ensures { result ≡ table_number self.now }
     {

@@ -5,6 +5,7 @@ ghost use Rattle.table.specs.Entries.{head, slot};
 
 use crate::entry::Entry;
 
+// Not `Result<Option<Entry>, _>`: three cases of equal rank, and `Ok(None)` would say less than `Vacant`.
 #[derive(Clone, Copy, PartialEq, Eq, Debug)]
 pub enum Head {
     // Neither entry is whole.

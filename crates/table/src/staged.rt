@@ -7,6 +7,7 @@ use crate::fault::TableFault;
 use crate::store::{Table, find_place};
 use codec::fill_part;
 
+// No heap: both tables are lent and of a fixed size, so the counts of entries stand beside them.
 #[derive(Drop)]
 pub struct StagedTable<'a> {
     working: &'a mut [Entry],

@@ -6,7 +6,6 @@ ghost use Rattle.table.specs.Lent.{entries_in};
 use crate::{
     ByteTable, EMPTY, Entry, Head, StagedTable, Table, TableFault, read_latest_entry, read_table,
 };
-use std::process::Abort;
 use std::test::Fail;
 
 #[test]
@@ -32,37 +31,43 @@ fn damaged(rt: HostRuntime) {
     assert_eq!(rt; read_latest_entry(&EMPTY, &EMPTY), Head::Vacant);
 }
 
+// Unlike an assertion, what fails here is answered, and no helper needs a handle.
+fn check(holds: bool) -> Result<(), Fail> {
+    if holds {
+        Ok(())
+    } else {
+        Err(Fail::new("the table answered something else"))
+    }
+}
+
 // Counts at their limits.
-fn limits<T: Table>(rt: &impl Abort, table: &mut T) {
+fn limits<T: Table>(table: &mut T) -> Result<(), Fail> {
     let most = table.most();
-    assert_eq!(rt; table.resize(u64::MAX), Err(TableFault::TooMany));
-    assert_eq!(rt;
-        table.resize(most.saturating_add(1)),
-        Err(TableFault::TooMany)
-    );
-    assert_eq!(rt; table.resize(most), Ok(()));
-    assert_eq!(rt; table.len(), most);
-    assert_eq!(rt; table.write(most, EMPTY), Err(TableFault::PastEnd(most)));
-    assert_eq!(rt; table.read(u64::MAX), Err(TableFault::PastEnd(u64::MAX)));
-    assert_eq!(rt; table.resize(0), Ok(()));
-    assert_eq!(rt; read_table(table, 0), Err(TableFault::PastEnd(0)));
+    check(table.resize(u64::MAX) == Err(TableFault::TooMany))?;
+    check(table.resize(most.saturating_add(1)) == Err(TableFault::TooMany))?;
+    check(table.resize(most) == Ok(()))?;
+    check(table.len() == most)?;
+    check(table.write(most, EMPTY) == Err(TableFault::PastEnd(most)))?;
+    check(table.read(u64::MAX) == Err(TableFault::PastEnd(u64::MAX)))?;
+    check(table.resize(0) == Ok(()))?;
+    check(read_table(table, 0) == Err(TableFault::PastEnd(0)))
 }
 
 // What is written is read, a resize drops it, and entries that are added are empty.
-fn script<T: Table>(rt: &impl Abort, table: &mut T) {
+fn script<T: Table>(table: &mut T) -> Result<(), Fail> {
     let one = Entry::new(1, 0, 7, 1);
     let two = Entry::new(2, 0, 8, 2);
-    assert_eq!(rt; table.resize(4), Ok(()));
-    assert_eq!(rt; table.write(2, one), Ok(()));
-    assert_eq!(rt; table.write(3, two), Ok(()));
-    assert_eq!(rt; read_table(table, 1), Ok((one, two)));
-    assert_eq!(rt; table.resize(3), Ok(()));
-    assert_eq!(rt; read_table(table, 1), Err(TableFault::PastEnd(3)));
-    assert_eq!(rt; table.resize(4), Ok(()));
-    assert_eq!(rt; read_table(table, 1), Ok((one, EMPTY)));
-    assert_eq!(rt; read_table(table, 0), Ok((EMPTY, EMPTY)));
+    check(table.resize(4) == Ok(()))?;
+    check(table.write(2, one) == Ok(()))?;
+    check(table.write(3, two) == Ok(()))?;
+    check(read_table(table, 1) == Ok((one, two)))?;
+    check(table.resize(3) == Ok(()))?;
+    check(read_table(table, 1) == Err(TableFault::PastEnd(3)))?;
+    check(table.resize(4) == Ok(()))?;
+    check(read_table(table, 1) == Ok((one, EMPTY)))?;
+    check(read_table(table, 0) == Ok((EMPTY, EMPTY)))?;
     table.sync();
-    assert_eq!(rt; table.read(2), Ok(one));
+    check(table.read(2) == Ok(one))
 }
 
 // 200 bytes are six entries and 26 bytes more.
@@ -73,8 +78,8 @@ fn bytes(rt: HostRuntime) -> Result<(), Fail> {
     ByteTable::check(&bytes, 0)?;
     let mut table = ByteTable::new(&mut bytes, 0);
     assert_eq!(rt; table.most(), 6);
-    limits(&rt, &mut table);
-    script(&rt, &mut table);
+    limits(&mut table)?;
+    script(&mut table)?;
     assert_eq!(rt; bytes[29 * 2 + 7], 1);
     assert_eq!(rt; TableFault::TooMany.number(), 8);
     assert_eq!(rt; TableFault::PastEnd(3).number(), 19);
@@ -94,8 +99,8 @@ fn staged(rt: HostRuntime) -> Result<(), Fail> {
     StagedTable::check(&working, &durable, 1)?;
     let mut table = StagedTable::new(&mut working, &mut durable, 1);
     assert_eq!(rt; table.read(0), Ok(old));
-    limits(&rt, &mut table);
-    script(&rt, &mut table);
+    limits(&mut table)?;
+    script(&mut table)?;
     assert_eq!(rt; durable[2], Entry::new(1, 0, 7, 1));
     assert_eq!(rt; durable[3], EMPTY);
     assert_eq!(rt; durable[0], EMPTY);
