@@ -34,8 +34,5 @@ pub fn read_stored<V: Value>(stored: &[u8], place: Cursor) -> Result<V, JournalF
     if own != check {
         return Err(JournalFault::Check(check, own));
     }
-    match V::decode(&stored[0..size]) {
-        Some(value) => Ok(value),
-        None => Err(JournalFault::Kind(Some(place))),
-    }
+    V::decode(&stored[0..size]).ok_or(JournalFault::Kind(Some(place)))
 }

@@ -1,8 +1,7 @@
 -- The good rows at the front of bytes, one by one.
 use Rattle.std.proofs.Common.{◌≡◌, ℕ, zero, suc, ◌≤◌, true, false, cond, ltb, leb, List, [], ◌∷◌, length, get_or, drop, sym, refl, ap, ◌∙◌, ⊎_elim, arith, length-drop}
 use Rattle.std.proofs.lemmas.Bool.{and_parts, and_left, and_right, or_cases, cases_Bool, cond-true, cond-false, eqb-true, lt-leb, ltb-true, ne_eqb}
-use Rattle.journal.specs.Log.{LogRow, Shown, row, blank, spoiled, is_blank, is_marked, is_row, look, row_of, row_len, section_of, value_of}
-use Rattle.log_journal.specs.Kept.{log_rows, rows_from}
+use Rattle.journal.specs.Log.{LogRow, Shown, row, blank, spoiled, is_blank, is_marked, is_row, log_rows, look, row_of, row_len, rows_from, section_of, value_of}
 
 -- fuel beyond the length of the bytes makes no difference
 same_fuel : (f g w last : ℕ) (bs : List ℕ) → length bs ≤ f → length bs ≤ g → log_rows f w last bs ≡ log_rows g w last bs
