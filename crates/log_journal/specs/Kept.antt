@@ -1,5 +1,5 @@
 -- What bytes keep as a journal: the good rows at their front.
-use Rattle.std.specs.Prelude.{◌≡◌, ℕ, zero, suc, ◌+◌, ◌-◌, Bool, cond, ◌&&◌, List, [], ◌∷◌, ◌++◌, length, drop, replicate, Some, None, Ok, Err, Option, Result, ◌==◌, nat_le, nat_lt}
+use Rattle.std.specs.Prelude.{◌≡◌, ℕ, ◌+◌, ◌-◌, Bool, cond, ◌&&◌, List, ◌++◌, length, replicate, Some, None, Ok, Err, Option, Result, ◌==◌, nat_le, nat_lt}
 use Rattle.journal.specs.Rows.{Row, JournalMeaning, stored_of}
 use Rattle.journal.specs.Flat.{flat_means}
 use Rattle.journal.specs.Log.{LogRow, Rising, log_bytes, row_len}

@@ -4,7 +4,7 @@ use Rattle.journal.specs.Left.{rows_left}
 use Rattle.journal.specs.Log.{log_bytes, row_shown}
 use Rattle.journal.proofs.Lengths.{length_first}
 use Rattle.log_journal.specs.Kept.{section_in}
-use Rattle.log_journal.proofs.Sections.{cut_off, cut_on}
+use Rattle.log_journal.proofs.Sections.{cut_on}
 use Rattle.log_journal.proofs.Walks.{cut_within}
 use Rattle.log_journal.proofs.walk.cut_end.Goals as goal
 

@@ -1,5 +1,4 @@
 use Rattle.std.proofs.Common.{◌≡◌, map, None, ap, ◌∙◌, rules}
-use Rattle.std.specs.List.{last_or}
 use Rattle.std.specs.Option.{option_map}
 use Rattle.std.proofs.lemmas.Iterator.{items_from_drains}
 use Rattle.std.proofs.lemmas.Iterator.Consumers.{YieldsList-from_first}

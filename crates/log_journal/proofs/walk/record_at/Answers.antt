@@ -25,7 +25,7 @@ loop-row-init g c =
 
 pub loop-row-preserved-then-row-place : goal.loop-row-preserved-then-row-place
 loop-row-preserved-then-row-place g c =
-    let else = row_else g.K.DecodedKey.decoding c.args.place.section c.in-Some.ensures.steps c.if-row-place.true in
+    let else = row_else g.K.DecodedKey.decoding c.in-Some.ensures.steps c.if-row-place.true in
     record {
       keys = (subst (AllByRecursion (KeySound g.K.Key.WIDTH)) c.in-Some.ensures.steps c.loop-row.invariant.keys).1;
       bytes = omega (arith, ap stored_bytes else);
@@ -34,7 +34,7 @@ loop-row-preserved-then-row-place g c =
 
 pub returns-then-left-eq0 : goal.returns-then-left-eq0
 returns-then-left-eq0 g c =
-    let here = row_here g.K.DecodedKey.decoding c.args.place.section c.in-Some.ensures.steps c.if-row-place.false in
+    let here = row_here g.K.DecodedKey.decoding c.in-Some.ensures.steps c.if-row-place.false in
     let long = length_stored c.in-Some.row.value.now in
     let sound = (subst (AllByRecursion (KeySound g.K.Key.WIDTH)) c.in-Some.ensures.steps c.loop-row.invariant.keys).0 in
     let key : c.decode.result ≡ g.K.DecodedKey.decoding c.in-Some.row.key.now = g.met.K.Key.same _ _ (c.decode.ensures ∙ sym (g.met.K.DecodedKey.decoded c.in-Some.row.key.now sound.0 sound.1)) in
@@ -45,12 +45,12 @@ returns-then-left-eq0 g c =
 pub overflow_add-offset : goal.overflow_add-offset
 overflow_add-offset g c =
     let within = section_within g.K.DecodedKey.decoding c.args.place.section g.K.Key.WIDTH c.args.log.now c.type_inv.log in
-    let here = row_here g.K.DecodedKey.decoding c.args.place.section c.in-Some.ensures.steps c.if-row-place.false in
+    let here = row_here g.K.DecodedKey.decoding c.in-Some.ensures.steps c.if-row-place.false in
     record { fits = omega (arith, ap stored_bytes here, length_stored c.in-Some.row.value.now) }
 
 pub loop-row-preserved : goal.loop-row-preserved
 loop-row-preserved g c =
-    let here = row_here g.K.DecodedKey.decoding c.args.place.section c.in-Some.ensures.steps c.if-row-place.false in
+    let here = row_here g.K.DecodedKey.decoding c.in-Some.ensures.steps c.if-row-place.false in
     let long = length_stored c.in-Some.row.value.now in
     record {
       keys = (subst (AllByRecursion (KeySound g.K.Key.WIDTH)) c.in-Some.ensures.steps c.loop-row.invariant.keys).1;

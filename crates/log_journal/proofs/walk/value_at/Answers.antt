@@ -9,12 +9,12 @@ use Rattle.log_journal.proofs.walk.value_at.Goals.{else-offset-cursor-via-then-o
 pub overflow_add-offset : goal.overflow_add-offset
 overflow_add-offset g c =
     let within = section_within g.K.DecodedKey.decoding c.args.cursor.section g.K.Key.WIDTH c.args.log.now c.type_inv.log in
-    let here = row_here g.K.DecodedKey.decoding c.args.cursor.section c.in-Some.ensures.steps c.if-row-cursor.false in
+    let here = row_here g.K.DecodedKey.decoding c.in-Some.ensures.steps c.if-row-cursor.false in
     record { fits = omega (arith, ap stored_bytes here, length_stored c.in-Some.row.value.now) }
 
 pub loop-row-preserved : goal.loop-row-preserved
 loop-row-preserved g c =
-    let here = row_here g.K.DecodedKey.decoding c.args.cursor.section c.in-Some.ensures.steps c.if-row-cursor.false in
+    let here = row_here g.K.DecodedKey.decoding c.in-Some.ensures.steps c.if-row-cursor.false in
     let long = length_stored c.in-Some.row.value.now in
     let p = c.args.cursor in
     let other : (c.loop-row.offset ≡ p.offset → ⊥) ⊎ (length c.in-Some.row.value.now + 4 ≡ p.size → ⊥) =
