@@ -2,7 +2,7 @@
 use Rattle.std.proofs.Common.{◌≡◌, ℕ, ◌+◌, ◌-◌, ◌^◌, ◌<◌, ◌≤◌, List, ◌++◌, length, take, drop, Some, Ok, Err, Option, sym, refl, ap, ◌∙◌, arith, length-append, take-append-drop}
 use Rattle.std.specs.Option.{ok_or}
 use Rattle.std.specs.Int.Digits.{AllBelowBase}
-use Rattle.std.proofs.lemmas.List.{take_at, take_rest, drop_at}
+use Rattle.std.proofs.lemmas.List.{take_at, drop_at}
 use Rattle.std.proofs.lemmas.Bool.Decides.{nat_tests}
 use Rattle.crc32c.specs.Crc.{crc}
 use Rattle.crc32c.proofs.Fits.{crc_fits}
@@ -55,37 +55,21 @@ module _ {V : Type 0} (decode : List ℕ → Option V) (enc : List ℕ) (x : V) 
   pub there_stored : (c : Cursor) → value_there decode c (Some (stored_of enc)) ≡ Ok x
   there_stored c = there_checked decode enc u c ∙ ap (decoded decode c) d
 
--- ---- reading: the check of the bytes in front, and the one behind them
+-- ---- reading: bytes are an encoding and a check, which are split off
 
-module _ {V : Type 0} (decode : List ℕ → Option V) (c : Cursor) (stored : List ℕ) (long : 4 ≤ length stored) {own check : ℕ}
-    (e1 : own ≡ crc (take (length stored - 4 - 0) stored)) (e2 : check ≡ number (take (length stored - (length stored - 4)) (drop (length stored - 4) stored))) where
-  front : take (length stored - 4 - 0) stored ≡ encoding_of stored
-  front = ap (λ (n : ℕ). take n stored) (omega arith)
-
-  own_is : own ≡ value_check (encoding_of stored)
-  unfolding value_check
-  own_is = e1 ∙ ap crc front
-
-  check_is : check ≡ check_of stored
-  check_is = e2 ∙ ap number (take_rest stored (length stored - 4))
-
+module _ {V : Type 0} (decode : List ℕ → Option V) (c : Cursor) (stored : List ℕ) {enc behind : List ℕ} (long : 4 ≤ length stored) (front : enc ≡ take (length stored - 4) stored) (back : behind ≡ drop (length stored - 4) stored) {own check : ℕ}
+    (e1 : own ≡ crc enc) (e2 : check ≡ number behind) where
   pub reads_wrong : (own ≡ check → ⊥) → Err (Check check own) ≡ value_there decode c (Some stored)
-  reads_wrong n =
-      let o = own_is in
-      let k = check_is in
-      grind (arith, nat_tests)
+  unfolding value_check
+  reads_wrong n = grind (arith, nat_tests)
 
-  pub reads_right : own ≡ check → {r : Option V} → r ≡ decode (take (length stored - 4 - 0) stored) → ok_or r (Kind (Some c)) ≡ value_there decode c (Some stored)
-  reads_right q {r} e =
-      let o = own_is in
-      let k = check_is in
-      let f = front in
-      let d = or_kind decode c r in
-      grind (arith, nat_tests)
+  pub reads_right : own ≡ check → {r : Option V} → r ≡ decode enc → ok_or r (Kind (Some c)) ≡ value_there decode c (Some stored)
+  unfolding value_check
+  reads_right q {r} e = let d = or_kind decode c r in grind (arith, nat_tests)
 
   -- and the value that is read is stored as these bytes
-  pub reads_back : be 4 check ≡ take (length stored - (length stored - 4)) (drop (length stored - 4) stored) → own ≡ check → {e : List ℕ} → e ≡ take (length stored - 4 - 0) stored → stored_of e ≡ stored
+  pub reads_back : be 4 check ≡ behind → own ≡ check → {e : List ℕ} → e ≡ enc → stored_of e ≡ stored
+  unfolding value_check
   reads_back b q {e} h =
-      let enc : e ≡ encoding_of stored = h ∙ front in
-      let rest : be 4 (value_check e) ≡ drop (length stored - 4) stored = ap (be 4) (ap value_check enc ∙ sym own_is ∙ q) ∙ b ∙ take_rest stored (length stored - 4) in
-      (λ i. enc i ++ rest i) ∙ take-append-drop (length stored - 4) stored
+      let rest : be 4 (value_check e) ≡ behind = ap (be 4) (ap crc h ∙ sym e1 ∙ q) ∙ b in
+      (λ i. (h ∙ front) i ++ (rest ∙ back) i) ∙ take-append-drop (length stored - 4) stored

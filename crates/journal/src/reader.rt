@@ -45,8 +45,7 @@ impl<'a, K: Key> LogReader<'a, K> {
         ensures last { self.new.last ≡ last_after self.old.last (shown result) }
         ensures log { self.new.log.now ≡ self.old.log.now }
     {
-        let log = self.log;
-        let step = look(&log[self.at..log.len()], K::WIDTH, self.last, self.at);
+        let step = look(&self.log[self.at..], K::WIDTH, self.last, self.at);
         if let Step::Row { row, .. } = &step {
             self.at += row.size();
             self.last = row.section;

@@ -1,4 +1,4 @@
-// A row as it stands in a log. Key and value are parts of the log.
+// A row as it stands in a log. Key and value are parts of the log: of at most 64 bytes the one, of at most 4,096 the other.
 ghost use Rattle.std.specs.Prelude.{◌≡◌, ◌≤◌, length};
 
 use crate::place::Place;

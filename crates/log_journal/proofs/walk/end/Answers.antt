@@ -23,8 +23,8 @@ returns g c =
     let w = g.K.Key.WIDTH in
     let log = c.args.log.now in
     let u = under_of log (λ i. (c.type_inv.log i).fits) in
-    let end : c.sum.result ≡ log_end w log = 
-      sum_by_from_yields_List size_in (rows_in w log) c.map.result c.sum.result c.sum.ensures.ran
-      (YieldsList-from_map _ size_in (YieldsList-at c.map.ensures.source (YieldsList-from_first row_shown (rows_left w) (rows_in w log) c.new.ensures.left)) c.map.ensures.closure (λ x r q k. search rules))
-      ∙ sym (sizes (rows_in w log)) in
+    let end : c.sum.result ≡ log_end w log =
+    sum_by_from_yields_List size_in (rows_in w log) c.map.result c.sum.result c.sum.ensures.ran
+    (YieldsList-from_map _ size_in (YieldsList-at c.map.ensures.source (YieldsList-from_first row_shown (rows_left w) (rows_in w log) c.new.ensures.left)) c.map.ensures.closure (λ x r q k. search rules))
+    ∙ sym (sizes (rows_in w log)) in
     record { end = end; front = rows_front w log u c.sum.result end; rising = rows_rising w log u }

@@ -12,7 +12,7 @@ overflow_add-tally g c =
     record { fits = omega (arith, ap length here) }
 
 pub overflow_add-tally-then-row-section-2 : goal.overflow_add-tally-then-row-section-2
-overflow_add-tally-then-row-section-2 g c = 
+overflow_add-tally-then-row-section-2 g c =
     let within = section_within g.K.DecodedKey.decoding c.args.section g.K.Key.WIDTH c.args.log.now c.type_inv.log in
     let here = row_here g.K.DecodedKey.decoding c.in-Some.ensures.steps c.if-row-section.true in
     record { fits = omega (arith, ap stored_bytes here, length_stored c.in-Some.row.value.now) }
