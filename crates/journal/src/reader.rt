@@ -1,7 +1,7 @@
 // Reading a log, row by row.
-ghost use Rattle.std.specs.Prelude.{◌≡◌, ℕ, ◌+◌, ◌≤◌, cond, List, ◌++◌, length, drop, replicate, Some, None};
+ghost use Rattle.std.specs.Prelude.{◌≡◌, ℕ, ◌+◌, ◌≤◌, cond, List, ◌++◌, length, drop, replicate, Some, None, IfSome};
 ghost use Rattle.std.specs.Option.{option_map};
-ghost use Rattle.journal.specs.Log.{KeyWide, LogRow, Rising, Shows, at_after, blank, is_row, last_after, log_bytes, look, row_of, row_shown, rows_in, shown, stands};
+ghost use Rattle.journal.specs.Log.{KeyWide, LogRow, Rising, Shows, at_after, blank, is_row, last_after, log_bytes, look, row_len, row_of, row_shown, rows_in, shown, stands};
 
 use crate::place::Place;
 use crate::row::RowView;
@@ -93,7 +93,9 @@ fn look<'a>(rest: &'a [u8], width: usize, last: u64, at: usize) -> Step<'a>
 // The good row that `rest` begins with, if it does.
 fn good_row<'a>(rest: &'a [u8], width: usize, last: u64) -> Option<RowView<'a>>
     requires { width ≤ 64 }
-    ensures { option_map row_shown result ≡ cond (is_row width last rest.now) (Some (row_of width rest.now)) None }
+    ensures row { option_map row_shown result ≡ cond (is_row width last rest.now) (Some (row_of width rest.now)) None }
+    ensures key { IfSome result (λ v. length v.key.now ≡ width) }
+    ensures within { IfSome result (λ v. row_len width (length v.value.now) ≤ length rest.now) }
 {
     if rest.len() < 34 + width || rest[0] != 0x46 || rest[1] != 0x5a {
         return None;

@@ -44,6 +44,9 @@ module _ {K : Type 0} where
     pub record_on : (p : ℕ) → (p ≡ 0 → ⊥) → record_from (from + n) rs (p - 1) ≡ record_from from rows p
     record_on p d = grind arith
 
+    pub stored_here : (offset size : ℕ) → from ≡ offset → n ≡ size → stored_at from rows offset size ≡ Some r.stored
+    stored_here offset size d e = grind (arith, nat_tests)
+
     pub stored_on : (offset size : ℕ) → (from ≡ offset → ⊥) ⊎ (n ≡ size → ⊥) → stored_at (from + n) rs offset size ≡ stored_at from rows offset size
     stored_on offset size other = grind (arith, nat_tests)
 
