@@ -1,13 +1,13 @@
 -- The parts of a row that stands in front of `rest`: where each lies, and what a reader makes of them.
-use Rattle.std.proofs.Common.{◌≡◌, ℕ, ◌+◌, ◌≤◌, true, false, ltb, List, ◌∷◌, ◌++◌, length, sym, refl, ap, ◌∙◌, append_assoc, arith, length-append}
+use Rattle.std.proofs.Common.{◌≡◌, ℕ, ◌+◌, ◌≤◌, List, ◌∷◌, ◌++◌, length, sym, refl, ap, ◌∙◌, append_assoc, arith, length-append}
 use Rattle.std.specs.List.{between}
-use Rattle.std.proofs.lemmas.Bool.{and_from, or_from, le-leb, le-ltb, eq-eqb, cond-true, cond-false}
+use Rattle.std.proofs.lemmas.Bool.Decides.{nat_tests}
 use Rattle.crc32c.specs.Crc.{crc}
 use Rattle.crc32c.proofs.Fits.{crc_fits}
 use Rattle.codec.specs.Bytes.{be, number}
 use Rattle.codec.specs.Rounds.{number-be}
 use Rattle.codec.proofs.Pieces.{field}
-use Rattle.journal.specs.Log.{LogRow, Writable, row, row_bytes, row_len, row_of, log_row, section_of, value_length, value_of, check_of, is_blank, is_marked, is_row, look}
+use Rattle.journal.specs.Log.{LogRow, Writable, row, row_bytes, row_len, row_of, log_row, section_of, value_length, value_of, check_of, look}
 
 regroup : (a k n p l v c rest : List ℕ) → ((((a ++ k) ++ n) ++ p) ++ ((l ++ v) ++ c)) ++ rest ≡ a ++ (k ++ (n ++ (p ++ (l ++ (v ++ (c ++ rest))))))
 regroup a k n p l v c rest = simp append_assoc
@@ -83,20 +83,15 @@ module _ (w : ℕ) (r : LogRow) (ok : Writable w r) (rest : List ℕ) where
       ((ap number parts.next_position ∙ number-be 8 r.next_position ok.next_position_fits) i)
       (value_back i)
 
-  not_blank : is_blank bs ≡ false
-  not_blank = or_from (ltb (length bs) 2) _ (le-ltb (length bs) 2 (omega (arith, parts.all))) refl
-
-  good : (last : ℕ) → last ≤ r.section → is_row w last bs ≡ true
-  good last h =
-      and_from (is_marked bs) _ refl
-      (and_from _ _ (le-leb (row_len w 0) (length bs) (omega (arith, parts.all)))
-      (and_from _ _ (le-leb last (section_of bs) (omega (arith, section_back)))
-      (and_from _ _ (le-leb (value_length w bs) 4096 (omega (arith, length_back, ok.value_most)))
-      (and_from _ _ (le-leb (row_len w (value_length w bs)) (length bs) (omega (arith, length_back, parts.all)))
-      (eq-eqb (check_of w bs) (crc (value_of w bs)) check_back)))))
-
   pub look_written : (last at : ℕ) → last ≤ r.section → look w last at bs ≡ row at r
-  look_written last at h = cond-false (is_blank bs) _ _ not_blank ∙ cond-true (is_row w last bs) _ _ (good last h) ∙ ap (row at) row_back
+  look_written last at h =
+      let section = section_back in
+      let length = length_back in
+      let check = check_back in
+      let all = parts.all in
+      let row = row_back in
+      let most = ok.value_most in
+      grind (arith, nat_tests)
 
   pub length_row : length (row_bytes r) ≡ row_len w (length r.value)
   length_row = omega (arith, parts.all, length-append (row_bytes r) rest)

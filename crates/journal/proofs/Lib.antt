@@ -9,3 +9,5 @@ pub mod RowsBack
 pub mod Tells
 pub mod Whole
 pub mod Written
+pub mod GoodRows
+pub mod Turns

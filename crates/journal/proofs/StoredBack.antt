@@ -1,14 +1,15 @@
 -- A stored value is read again.
-use Rattle.std.proofs.Common.{◌≡◌, ℕ, ◌+◌, ◌-◌, ◌^◌, ◌<◌, ◌≤◌, eqb, ltb, List, ◌++◌, length, take, drop, Some, Ok, Err, Option, sym, refl, ap, ◌∙◌, arith, length-append, take-append-drop}
+use Rattle.std.proofs.Common.{◌≡◌, ℕ, ◌+◌, ◌-◌, ◌^◌, ◌<◌, ◌≤◌, List, ◌++◌, length, take, drop, Some, Ok, Err, Option, sym, refl, ap, ◌∙◌, arith, length-append, take-append-drop}
+use Rattle.std.specs.Option.{ok_or}
 use Rattle.std.specs.Int.Digits.{AllBelowBase}
-use Rattle.std.proofs.lemmas.List.{take_at, take_rest, drop_at}
-use Rattle.std.proofs.lemmas.Bool.{eq-eqb, ne_eqb, le-ltb, cond-true, cond-false}
+use Rattle.std.proofs.lemmas.List.{take_at, drop_at}
+use Rattle.std.proofs.lemmas.Bool.Decides.{nat_tests}
 use Rattle.crc32c.specs.Crc.{crc}
 use Rattle.crc32c.proofs.Fits.{crc_fits}
 use Rattle.codec.specs.Bytes.{be, number}
 use Rattle.codec.specs.Rounds.{number-be}
 use Rattle.journal.specs.declared.fault.Cursor.{Cursor}
-use Rattle.journal.specs.declared.fault.JournalFault.TheVariants.{Check}
+use Rattle.journal.specs.declared.fault.JournalFault.TheVariants.{Check, Kind}
 use Rattle.journal.specs.Rows.{check_of, checked, decoded, encoding_of, stored_of, value_check, value_there}
 
 check_fits : (bs : List ℕ) → AllBelowBase 256 bs → value_check bs < 2 ^ 32
@@ -27,54 +28,48 @@ check_back enc u =
     let e : length (stored_of enc) - 4 ≡ length enc = omega arith in
     ap (λ (n : ℕ). number (drop n (stored_of enc))) e ∙ ap number (drop_at enc (be 4 (value_check enc)) (length enc) refl) ∙ number-be 4 (value_check enc) (check_fits enc u)
 
+or_kind : {V : Type 0} (decode : List ℕ → Option V) (c : Cursor) (o : Option V) → ok_or o (Kind (Some c)) ≡ decoded decode c o
+or_kind decode c o = grind arith
+
 -- a stored value has the right check, so reading it is decoding it
 module _ {V : Type 0} (decode : List ℕ → Option V) (enc : List ℕ) (u : AllBelowBase 256 enc) where
   checked_decoded : (c : Cursor) → checked decode c (stored_of enc) ≡ decoded decode c (decode enc)
   checked_decoded c =
       let e = encoding_back enc in
-      cond-true (eqb (value_check (encoding_of (stored_of enc))) (check_of (stored_of enc))) _ _ (eq-eqb _ _ (ap value_check e ∙ sym (check_back enc u)))
-      ∙ ap (λ (bs : List ℕ). decoded decode c (decode bs)) e
+      let k = check_back enc u in
+      grind (arith, nat_tests)
 
-  pub there_decoded : (c : Cursor) → value_there decode c (Some (stored_of enc)) ≡ decoded decode c (decode enc)
-  there_decoded c = cond-false (ltb (length (stored_of enc)) 4) _ _ (le-ltb (length (stored_of enc)) 4 (omega (arith, length_stored enc))) ∙ checked_decoded c
+  there_checked : (c : Cursor) → value_there decode c (Some (stored_of enc)) ≡ decoded decode c (decode enc)
+  there_checked c =
+      let l = length_stored enc in
+      let h = checked_decoded c in
+      grind (arith, nat_tests)
+
+  pub there_decoded : (c : Cursor) → ok_or (decode enc) (Kind (Some c)) ≡ value_there decode c (Some (stored_of enc))
+  there_decoded c = or_kind decode c (decode enc) ∙ sym (there_checked c)
 
 module _ {V : Type 0} (decode : List ℕ → Option V) (enc : List ℕ) (x : V) (u : AllBelowBase 256 enc) (d : decode enc ≡ Some x) where
   pub checked_stored : (c : Cursor) → checked decode c (stored_of enc) ≡ Ok x
   checked_stored c = checked_decoded decode enc u c ∙ ap (decoded decode c) d
 
   pub there_stored : (c : Cursor) → value_there decode c (Some (stored_of enc)) ≡ Ok x
-  there_stored c = there_decoded decode enc u c ∙ ap (decoded decode c) d
+  there_stored c = there_checked decode enc u c ∙ ap (decoded decode c) d
 
--- ---- reading: the check of the bytes in front, and the one behind them
+-- ---- reading: bytes are an encoding and a check, which are split off
 
-module _ {V : Type 0} (decode : List ℕ → Option V) (c : Cursor) (stored : List ℕ) (long : 4 ≤ length stored) (own check : ℕ)
-    (e1 : own ≡ crc (take (length stored - 4 - 0) stored)) (e2 : check ≡ number (take (length stored - (length stored - 4)) (drop (length stored - 4) stored))) where
-  front : take (length stored - 4 - 0) stored ≡ encoding_of stored
-  front = ap (λ (n : ℕ). take n stored) (omega arith)
-
-  own_is : own ≡ value_check (encoding_of stored)
-  unfolding value_check
-  own_is = e1 ∙ ap crc front
-
-  check_is : check ≡ check_of stored
-  check_is = e2 ∙ ap number (take_rest stored (length stored - 4))
-
-  there : value_there decode c (Some stored) ≡ checked decode c stored
-  there = cond-false (ltb (length stored) 4) _ _ (le-ltb (length stored) 4 long)
-
+module _ {V : Type 0} (decode : List ℕ → Option V) (c : Cursor) (stored : List ℕ) {enc behind : List ℕ} (long : 4 ≤ length stored) (front : enc ≡ take (length stored - 4) stored) (back : behind ≡ drop (length stored - 4) stored) {own check : ℕ}
+    (e1 : own ≡ crc enc) (e2 : check ≡ number behind) where
   pub reads_wrong : (own ≡ check → ⊥) → Err (Check check own) ≡ value_there decode c (Some stored)
-  reads_wrong n =
-      (λ i. Err (Check (check_is i) (own_is i)))
-      ∙ sym (there ∙ cond-false (eqb (value_check (encoding_of stored)) (check_of stored)) _ _ (ne_eqb _ _ (λ q. n (own_is ∙ q ∙ sym check_is))))
+  unfolding value_check
+  reads_wrong n = grind (arith, nat_tests)
 
-  pub reads_right : own ≡ check → (r : Option V) → r ≡ decode (take (length stored - 4 - 0) stored) → decoded decode c r ≡ value_there decode c (Some stored)
-  reads_right q r e =
-      ap (decoded decode c) (e ∙ ap decode front)
-      ∙ sym (there ∙ cond-true (eqb (value_check (encoding_of stored)) (check_of stored)) _ _ (eq-eqb _ _ (sym own_is ∙ q ∙ check_is)))
+  pub reads_right : own ≡ check → {r : Option V} → r ≡ decode enc → ok_or r (Kind (Some c)) ≡ value_there decode c (Some stored)
+  unfolding value_check
+  reads_right q {r} e = let d = or_kind decode c r in grind (arith, nat_tests)
 
   -- and the value that is read is stored as these bytes
-  pub reads_back : be 4 check ≡ take (length stored - (length stored - 4)) (drop (length stored - 4) stored) → own ≡ check → (e : List ℕ) → e ≡ take (length stored - 4 - 0) stored → stored_of e ≡ stored
-  reads_back b q e h =
-      let enc : e ≡ encoding_of stored = h ∙ front in
-      let rest : be 4 (value_check e) ≡ drop (length stored - 4) stored = ap (be 4) (ap value_check enc ∙ sym own_is ∙ q) ∙ b ∙ take_rest stored (length stored - 4) in
-      (λ i. enc i ++ rest i) ∙ take-append-drop (length stored - 4) stored
+  pub reads_back : be 4 check ≡ behind → own ≡ check → {e : List ℕ} → e ≡ enc → stored_of e ≡ stored
+  unfolding value_check
+  reads_back b q {e} h =
+      let rest : be 4 (value_check e) ≡ behind = ap (be 4) (ap crc h ∙ sym e1 ∙ q) ∙ b in
+      (λ i. (h ∙ front) i ++ (rest ∙ back) i) ∙ take-append-drop (length stored - 4) stored

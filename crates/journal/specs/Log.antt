@@ -1,9 +1,10 @@
 -- The log: rows one behind the other, and zeros behind them.
-use Rattle.std.specs.Prelude.{◌≡◌, ℕ, ◌+◌, ◌^◌, ◌<◌, ◌≤◌, Bool, cond, ◌&&◌, ◌||◌, List, [], ◌∷◌, ◌++◌, length, drop, ◌==◌, nat_le, nat_lt, slice_index}
+use Rattle.std.specs.Prelude.{◌≡◌, ℕ, zero, suc, ◌+◌, ◌^◌, ◌<◌, ◌≤◌, Bool, cond, ◌&&◌, ◌||◌, List, [], ◌∷◌, ◌++◌, length, drop, ◌==◌, nat_le, nat_lt, slice_index}
 use Rattle.std.specs.List.{between}
 use Rattle.std.specs.Int.Digits.{AllBelowBase}
 use Rattle.crc32c.specs.Crc.{crc}
 use Rattle.codec.specs.Bytes.{be, number}
+use Rattle.journal.specs.declared.row.RowView.{RowView}
 use Rattle.journal.specs.declared.step.Step.{Step}
 use Rattle.journal.specs.declared.step.Step.TheVariants.{Row, Blank, Spoiled}
 
@@ -87,9 +88,13 @@ pub data Shown : Type 0 where
   blank : (at : ℕ) → Shown
   spoiled : (at : ℕ) → Shown
 
+-- the row of a view
+abbrev pub row_shown : RowView → LogRow
+row_shown v = log_row v.section v.key.now v.next.section v.next.position v.value.now
+
 -- what each answer carries
 abbrev pub shown : Step → Shown
-shown (Row at s k next v) = row at (log_row s k.now next.section next.position v.now)
+shown (Row at v) = row at (row_shown v)
 shown (Blank at) = blank at
 shown (Spoiled at) = spoiled at
 
@@ -142,6 +147,22 @@ pub record Writable (w : ℕ) (r : LogRow) : Type 0 where
 abbrev pub Rising : ℕ → ℕ → List LogRow → Type 0
 Rising w last [] = Unit {0}
 Rising w last (r ∷ rs) = Writable w r × (last ≤ r.section) × Rising w r.section rs
+
+-- ---- the good rows at the front of bytes
+
+-- from the front, none below section `last`; `fuel` is at least the number of rows
+unfoldable pub log_rows : ℕ → ℕ → ℕ → List ℕ → List LogRow
+log_rows zero w last bs = []
+log_rows (suc fuel) w last bs =
+    cond (is_row w last bs) (row_of w bs ∷ log_rows fuel w (section_of bs) (drop (row_len w (length (value_of w bs))) bs)) []
+
+-- there are fewer rows than bytes
+abbrev pub rows_from : ℕ → ℕ → List ℕ → List LogRow
+rows_from w last bs = log_rows (length bs) w last bs
+
+-- all of them
+abbrev pub rows_in : ℕ → List ℕ → List LogRow
+rows_in w bs = rows_from w 0 bs
 
 -- rows one behind the other
 abbrev pub log_bytes : List LogRow → List ℕ

@@ -24,18 +24,14 @@ pub fn read_stored<V: Value>(stored: &[u8], place: Cursor) -> Result<V, JournalF
     ensures answer { result ≡ value_there V.decoding place (Some stored.now) }
     ensures back { (v : V) → result ≡ Ok v → stored_of (V.encoding v) ≡ stored.now }
 {
-    let len = stored.len();
-    if len < 4 {
+    if stored.len() < 4 {
         return Err(JournalFault::NoValue(place));
     }
-    let size = len - 4;
-    let check = u32::take(&stored[size..len]);
-    let own = checksum(&stored[0..size]);
+    let (encoding, check) = stored.split_at(stored.len() - 4);
+    let check = u32::take(check);
+    let own = checksum(encoding);
     if own != check {
         return Err(JournalFault::Check(check, own));
     }
-    match V::decode(&stored[0..size]) {
-        Some(value) => Ok(value),
-        None => Err(JournalFault::Kind(Some(place))),
-    }
+    V::decode(encoding).ok_or(JournalFault::Kind(Some(place)))
 }

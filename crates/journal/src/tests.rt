@@ -1,6 +1,6 @@
 // A reader over short, cut and damaged logs; records, cursors and stored values.
 use crate::{
-    Cursor, LogReader, Place, Record, Step, read_stored, row_size, write_row, write_stored,
+    Cursor, LogReader, Place, Record, RowView, Step, read_stored, row_size, write_row, write_stored,
 };
 use codec::{Key, Serial, Value, Window};
 
@@ -26,18 +26,12 @@ fn first_step(log: &[u8]) -> Step<'_> {
 fn differs(log: &[u8]) -> Option<[bool; 5]> {
     let own = one_row();
     match first_step(log) {
-        Step::Row {
-            section,
-            key,
-            next,
-            value,
-            ..
-        } => Some([
-            section != 3,
-            key != &own[10..18],
-            next.section != u64::MAX,
-            next.position != u64::MAX,
-            value != &own[38..54],
+        Step::Row { row, .. } => Some([
+            row.section != 3,
+            row.key != &own[10..18],
+            row.next.section != u64::MAX,
+            row.next.position != u64::MAX,
+            row.value != &own[38..54],
         ]),
         _ => None,
     }
@@ -117,13 +111,15 @@ fn falling(rt: HostRuntime) {
             reader.step(),
             Step::Row {
                 at: 0,
-                section: 3,
-                ..
+                row: RowView { section: 3, .. },
             }
         )
     );
     assert!(rt; matches!(reader.step(), Step::Spoiled { at: 58 }));
     assert!(rt; matches!(reader.step(), Step::Spoiled { at: 58 }));
+    let mut rows = LogReader::<Serial>::new(&log);
+    assert_eq!(rt; rows.next().map(|row| row.size()), Some(58));
+    assert!(rt; rows.next().is_none());
     log[67] = 3;
     let mut reader = LogReader::<Serial>::new(&log);
     assert!(rt;
@@ -131,8 +127,7 @@ fn falling(rt: HostRuntime) {
             reader.step(),
             Step::Row {
                 at: 0,
-                section: 3,
-                ..
+                row: RowView { section: 3, .. },
             }
         )
     );
@@ -141,12 +136,14 @@ fn falling(rt: HostRuntime) {
             reader.step(),
             Step::Row {
                 at: 58,
-                section: 3,
-                next: Place {
+                row: RowView {
                     section: 3,
-                    position: 0,
+                    next: Place {
+                        section: 3,
+                        position: 0,
+                    },
+                    ..
                 },
-                ..
             }
         )
     );

@@ -7,7 +7,7 @@ use Rattle.journal.specs.Log.{LogRow, Rising, Writable, log_bytes, row_bytes, ro
 use Rattle.log_journal.specs.Kept.{IsLogGood, log_end, kept_row, rows_from, rows_in, section_in}
 use Rattle.journal.proofs.Fields.{look_written, length_row}
 use Rattle.journal.proofs.ReadBack.{look_zeros}
-use Rattle.log_journal.proofs.GoodRows.{rows_shown, shown_rows}
+use Rattle.journal.proofs.GoodRows.{rows_shown, shown_rows}
 
 -- ---- lists of rows
 

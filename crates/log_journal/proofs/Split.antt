@@ -1,20 +1,19 @@
 -- Bytes are the bytes of their good rows, and what stands behind them.
-use Rattle.std.proofs.Common.{◌≡◌, ℕ, zero, suc, ◌+◌, ◌-◌, ◌^◌, ◌<◌, ◌≤◌, true, eqb, leb, List, [], ◌∷◌, ◌++◌, length, get_or, take, drop, sym, refl, ap, ◌∙◌, subst, append_assoc, arith, length-drop, take-append-drop}
-use Rattle.std.specs.List.{between}
+use Rattle.std.proofs.Common.{◌≡◌, ℕ, zero, suc, ◌+◌, ◌-◌, ◌^◌, ◌<◌, ◌≤◌, true, List, [], ◌∷◌, ◌++◌, length, get_or, take, drop, sym, refl, ap, ◌∙◌, subst, append_assoc, arith, length-drop, take-append-drop}
+use Rattle.std.specs.List.{AllByRecursion, between}
 use Rattle.std.specs.Int.Digits.{AllBelowBase}
 use Rattle.std.proofs.lemmas.List.{drop_at, length-take-le}
-use Rattle.std.proofs.lemmas.Bool.{and_parts, cond_both, eqb-true, leb-true}
+use Rattle.std.proofs.lemmas.Bool.{cond_both}
+use Rattle.std.proofs.lemmas.Bool.Decides.{nat_tests}
 use Rattle.crc32c.specs.Crc.{crc}
 use Rattle.codec.specs.Bytes.{be, number}
 use Rattle.codec.proofs.Pieces.{joined_on}
 use Rattle.codec.specs.Rounds.{be_back, number_lt, under_take, under_drop}
-use Rattle.journal.specs.Log.{LogRow, Rising, Writable, check_of, head_bytes, is_marked, is_row, log_bytes, row_bytes, row_of, row_len, section_of, value_length, value_of}
-use Rattle.log_journal.specs.Kept.{log_rows, rows_in}
+use Rattle.journal.specs.Log.{LogRow, Rising, Writable, check_of, head_bytes, is_row, log_bytes, log_rows, row_bytes, row_of, row_len, section_of, value_length, value_of}
+use Rattle.log_journal.specs.Kept.{rows_in}
 
 marked : (bs : List ℕ) → get_or bs 0 0 ≡ 0x46 → get_or bs 1 0 ≡ 0x5A → 0x46 ∷ 0x5A ∷ [] ≡ take 2 bs
-marked [] d e = absurd (omega arith)
-marked (a ∷ []) d e = absurd (omega arith)
-marked (a ∷ b ∷ bs) d e = λ i. sym d i ∷ sym e i ∷ []
+marked bs d e = grind arith
 
 -- a part of bytes
 module _ (bs : List ℕ) (u : AllBelowBase 256 bs) (i j k : ℕ) (sum : i + k ≡ j) (fit : j ≤ length bs) where
@@ -46,22 +45,15 @@ module _ (w last : ℕ) (bs : List ℕ) (u : AllBelowBase 256 bs) (good : is_row
     check : check_of w bs ≡ crc (value_of w bs)
 
   tests : Tests
-  tests =
-      let a = and_parts (is_marked bs) _ good in
-      let m = and_parts (eqb (get_or bs 0 0) 0x46) (eqb (get_or bs 1 0) 0x5A) a.0 in
-      let b = and_parts (leb (row_len w 0) (length bs)) _ a.1 in
-      let c = and_parts (leb last (section_of bs)) _ b.1 in
-      let d = and_parts (leb (value_length w bs) 4096) _ c.1 in
-      let e = and_parts (leb (row_len w (value_length w bs)) (length bs)) _ d.1 in
-      record {
-        first = eqb-true (get_or bs 0 0) 0x46 m.0;
-        second = eqb-true (get_or bs 1 0) 0x5A m.1;
-        whole = leb-true (row_len w 0) (length bs) b.0;
-        order = leb-true last (section_of bs) c.0;
-        most = leb-true (value_length w bs) 4096 d.0;
-        long = leb-true (row_len w (value_length w bs)) (length bs) e.0;
-        check = eqb-true (check_of w bs) (crc (value_of w bs)) e.1;
-      }
+  tests = record {
+    first = grind (arith, nat_tests);
+    second = grind (arith, nat_tests);
+    whole = grind (arith, nat_tests);
+    order = grind (arith, nat_tests);
+    most = grind (arith, nat_tests);
+    long = grind (arith, nat_tests);
+    check = grind (arith, nat_tests);
+  }
 
   value_long : length (value_of w bs) ≡ value_length w bs
   value_long = part_long bs u (30 + w) (30 + w + value_length w bs) (value_length w bs) refl (omega (arith, tests.long))
@@ -100,15 +92,20 @@ module _ (w last : ℕ) (bs : List ℕ) (u : AllBelowBase 256 bs) (good : is_row
         value_bytes = part_under bs u (30 + w) (30 + w + value_length w bs) (value_length w bs) refl (omega arith);
       }
 
+-- a key of its width, and of bytes
+abbrev pub KeySound : ℕ → LogRow → Type 0
+KeySound w r = (length r.key ≡ w) × AllBelowBase 256 r.key
+
 -- some rows at the front of bytes, and what stands behind them
 record Fronted (w last : ℕ) (bs : List ℕ) (rs : List LogRow) : Type 0 where
   rest : List ℕ
   split : bs ≡ log_bytes rs ++ rest
   rising : Rising w last rs
+  keys : AllByRecursion (KeySound w) rs
 
 fronted : (f w last : ℕ) (bs : List ℕ) → AllBelowBase 256 bs → Fronted w last bs (log_rows f w last bs)
 unfolding log_rows
-fronted zero w last bs u = record { rest = bs; split = refl; rising = tt }
+fronted zero w last bs u = record { rest = bs; split = refl; rising = tt; keys = tt }
 fronted (suc f) w last bs u =
     let n = row_len w (length (value_of w bs)) in
     let b = drop n bs in
@@ -119,8 +116,9 @@ fronted (suc f) w last bs u =
       rest = behind.rest;
       split = begins w last bs u good ∙ ap (λ xs. row_bytes (row_of w bs) ++ xs) behind.split ∙ sym (append_assoc (row_bytes (row_of w bs)) (log_bytes (log_rows f w (section_of bs) b)) behind.rest);
       rising = (row_writable w last bs u good, not_below w last bs u good, behind.rising);
+      keys = (((row_writable w last bs u good).key_width, under_take _ _ (under_drop 10 bs u)), behind.keys);
     })
-    (λ none. record { rest = bs; split = refl; rising = tt })
+    (λ none. record { rest = bs; split = refl; rising = tt; keys = tt })
 
 -- so it is with all the good rows
 module _ (w : ℕ) (bs : List ℕ) (u : AllBelowBase 256 bs) where
@@ -132,3 +130,6 @@ module _ (w : ℕ) (bs : List ℕ) (u : AllBelowBase 256 bs) where
 
   pub rows_rising : Rising w 0 (rows_in w bs)
   rows_rising = (fronted (length bs) w 0 bs u).rising
+
+  pub rows_keys : AllByRecursion (KeySound w) (rows_in w bs)
+  rows_keys = (fronted (length bs) w 0 bs u).keys

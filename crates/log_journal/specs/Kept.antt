@@ -1,24 +1,11 @@
 -- What bytes keep as a journal: the good rows at their front.
-use Rattle.std.specs.Prelude.{◌≡◌, ℕ, zero, suc, ◌-◌, cond, ◌&&◌, List, [], ◌∷◌, ◌++◌, length, drop, replicate, Some, None, Option, ◌==◌, nat_lt}
+use Rattle.std.specs.Prelude.{◌≡◌, ℕ, zero, suc, ◌+◌, ◌-◌, cond, ◌&&◌, List, [], ◌∷◌, ◌++◌, length, replicate, Some, None, Option, ◌==◌, nat_lt}
 use Rattle.std.specs.Coded.{Unit-prop}
 use Rattle.std.proofs.Props.{props}
 use Rattle.journal.specs.Rows.{Row, JournalMeaning, stored_of}
 use Rattle.journal.specs.Flat.{flat_means}
-use Rattle.journal.specs.Log.{LogRow, Rising, is_row, log_bytes, row_of, row_len, section_of, value_of}
-
--- the good rows from the front, none below section `last`; `fuel` is at least the number of rows
-unfoldable pub log_rows : ℕ → ℕ → ℕ → List ℕ → List LogRow
-log_rows zero w last bs = []
-log_rows (suc fuel) w last bs =
-    cond (is_row w last bs) (row_of w bs ∷ log_rows fuel w (section_of bs) (drop (row_len w (length (value_of w bs))) bs)) []
-
--- there are fewer rows than bytes
-abbrev pub rows_from : ℕ → ℕ → List ℕ → List LogRow
-rows_from w last bs = log_rows (length bs) w last bs
-
--- the good rows at the front of bytes
-abbrev pub rows_in : ℕ → List ℕ → List LogRow
-rows_in w bs = rows_from w 0 bs
+use Rattle.journal.specs.Log.{LogRow, Rising, log_bytes, row_len}
+pub use Rattle.journal.specs.Log.{rows_from, rows_in}
 
 -- the section of a row
 abbrev pub section_in : LogRow → ℕ

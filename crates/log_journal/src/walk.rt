@@ -7,7 +7,7 @@ ghost use Rattle.journal.specs.Log.{Rising, log_bytes};
 ghost use Rattle.log_journal.specs.Kept.{keeps_row, log_end, log_means, rows_in, section_in};
 
 use codec::{DecodedKey, Key, Value};
-use journal::{Cursor, JournalFault, LogReader, Place, Record, Step};
+use journal::{Cursor, JournalFault, LogReader, Place, Record};
 
 // How many bytes the rows take. The bytes in front are theirs, and each is a row that could be written there.
 pub fn end<K: Key>(log: &[u8]) -> usize
@@ -15,13 +15,7 @@ pub fn end<K: Key>(log: &[u8]) -> usize
     ensures front { log.now ≡ log_bytes (rows_in K.Key.WIDTH log.now) ++ drop result log.now }
     ensures rising { Rising K.Key.WIDTH 0 (rows_in K.Key.WIDTH log.now) }
 {
-    let width = K::WIDTH;
-    let mut end = 0;
-    let mut reader = LogReader::<K>::new(log);
-    while let Step::Row { value, .. } = reader.step() {
-        end += 34 + width + value.len();
-    }
-    end
+    LogReader::<K>::new(log).map(|row| row.size()).sum()
 }
 
 // How many rows a section has, and how many bytes their stored values.
@@ -36,33 +30,21 @@ pub fn tally_of<K: DecodedKey>(log: &[u8], section: u64) -> Tally
     ensures bytes { result.bytes ≡ value_end (log_means K.DecodedKey.decoding K.Key.WIDTH log.now) section }
     ensures within { result.rows * (K.Key.WIDTH + 28) + result.bytes ≤ length log.now }
 {
-    let mut rows = 0;
-    let mut bytes = 0;
-    let mut reader = LogReader::<K>::new(log);
-    while let Step::Row {
-        section: own,
-        value,
-        ..
-    } = reader.step()
-    {
-        if own == section {
-            rows += 1;
-            bytes += value.len() as u64 + 4;
+    let mut tally = Tally { rows: 0, bytes: 0 };
+    for row in LogReader::<K>::new(log) {
+        if row.section == section {
+            tally.rows += 1;
+            tally.bytes += row.value.len() as u64 + 4;
         }
     }
-    Tally { rows, bytes }
+    tally
 }
 
 // The highest section with rows.
 pub fn highest<K: DecodedKey>(log: &[u8]) -> Option<u64>
     ensures { result ≡ highest_answer (log_means K.DecodedKey.decoding K.Key.WIDTH log.now) }
 {
-    let mut highest = None;
-    let mut reader = LogReader::<K>::new(log);
-    while let Step::Row { section, .. } = reader.step() {
-        highest = Some(section);
-    }
-    highest
+    LogReader::<K>::new(log).last().map(|row| row.section)
 }
 
 // The record at a position of a section.
@@ -71,25 +53,17 @@ pub fn record_at<K: DecodedKey>(log: &[u8], place: Place) -> Option<Record<K>>
 {
     let mut left = place.position;
     let mut offset = 0;
-    let mut reader = LogReader::<K>::new(log);
-    while let Step::Row {
-        section: own,
-        key,
-        next,
-        value,
-        ..
-    } = reader.step()
-    {
-        if own != place.section {
+    for row in LogReader::<K>::new(log) {
+        if row.section != place.section {
             continue;
         }
-        let size = value.len() + 4;
+        let size = row.value.len() as u32 + 4;
         if left == 0 {
             return Some(Record {
-                key: K::decode(key),
-                next,
+                key: K::decode(row.key),
+                next: row.next,
                 value_offset: offset,
-                value_size: size as u32,
+                value_size: size,
             });
         }
         left -= 1;
@@ -103,14 +77,13 @@ pub fn value_at<K: DecodedKey, V: Value>(log: &[u8], cursor: Cursor) -> Result<V
     ensures { result ≡ value_answer V.Value.decoding (log_means K.DecodedKey.decoding K.Key.WIDTH log.now) cursor }
 {
     let mut offset = 0;
-    let mut reader = LogReader::<K>::new(log);
-    while let Step::Row { section, value, .. } = reader.step() {
-        if section != cursor.section {
+    for row in LogReader::<K>::new(log) {
+        if row.section != cursor.section {
             continue;
         }
-        let size = value.len() as u64 + 4;
+        let size = row.value.len() as u64 + 4;
         if offset == cursor.offset && size == cursor.size as u64 {
-            return read_value(value, cursor);
+            return read_value(row.value, cursor);
         }
         offset += size;
     }
@@ -121,31 +94,21 @@ pub fn value_at<K: DecodedKey, V: Value>(log: &[u8], cursor: Cursor) -> Result<V
 fn read_value<V: Value>(value: &[u8], place: Cursor) -> Result<V, JournalFault>
     ensures { result ≡ value_there V.Value.decoding place (Some (stored_of value.now)) }
 {
-    match V::decode(value) {
-        Some(value) => Ok(value),
-        None => Err(JournalFault::Kind(Some(place))),
-    }
+    V::decode(value).ok_or(JournalFault::Kind(Some(place)))
 }
 
 // Where the rows end that a restore keeps: those of earlier sections, and the first `rows` of a section.
 pub fn cut_end<K: Key>(log: &[u8], section: u64, rows: u64) -> usize
     ensures { result ≡ length (log_bytes (cut section_in section rows (rows_in K.Key.WIDTH log.now))) }
 {
-    let width = K::WIDTH;
     let mut left = rows;
     let mut end = 0;
-    let mut reader = LogReader::<K>::new(log);
-    while let Step::Row {
-        section: own,
-        value,
-        ..
-    } = reader.step()
-    {
-        match keeps(section, left, own) {
-            Some(rest) => left = rest,
-            None => return end,
-        }
-        end += 34 + width + value.len();
+    for row in LogReader::<K>::new(log) {
+        let Some(rest) = keeps(section, left, row.section) else {
+            return end;
+        };
+        left = rest;
+        end += row.size();
     }
     end
 }

@@ -6,7 +6,7 @@ use Rattle.service.specs.declared.Term.{Term}
 
 -- the row of a term
 abbrev pub term_row : Term → LogRow
-term_row t = log_row t.section (be 8 t.serial) t.next_section t.next_position (be 8 t.first ++ be 8 t.end)
+term_row t = log_row t.section (be 8 t.serial) t.next.section t.next.position (be 8 t.first ++ be 8 t.end)
 
 -- how long the row is, none where the days are no window or the log ends too soon
 abbrev pub append_answer : List ℕ → ℕ → Term → Option ℕ

@@ -7,12 +7,9 @@ ghost use Rattle.service.specs.Append.{append_after, append_answer};
 
 use anyhow::anyhow;
 use codec::{Key, Serial, Value, Window};
-use journal::{LogReader, Step, row_size, write_row};
+use journal::{LogReader, Place, Step, row_size, write_row};
 use std::fmt;
 use table::Entry;
-
-// Both numbers of a next place are this where there is none.
-const NO_PLACE: u64 = u64::MAX;
 
 // A window that a serial gets, and the place of the row before it in its chain.
 #[derive(Clone, Copy)]
@@ -21,8 +18,7 @@ struct Term {
     serial: u64,
     first: u64,
     end: u64,
-    next_section: u64,
-    next_position: u64,
+    next: Place,
 }
 
 impl fmt::Display for Term {
@@ -32,17 +28,15 @@ impl fmt::Display for Term {
             serial,
             first,
             end,
-            next_section,
-            next_position,
+            next,
         } = *self;
         write!(
             f,
             "section {section}, serial {serial}, days {first} to {end}, "
         )?;
-        if next_section == NO_PLACE && next_position == NO_PLACE {
-            write!(f, "no next")
-        } else {
-            write!(f, "next ({next_section}, {next_position})")
+        match next.row() {
+            None => write!(f, "no next"),
+            Some(place) => write!(f, "next ({}, {})", place.section, place.position),
         }
     }
 }
@@ -66,8 +60,7 @@ fn append(log: &mut [u8], at: usize, term: &Term) -> Option<usize>
         &mut log[at..at + size],
         term.section,
         &key,
-        term.next_section,
-        term.next_position,
+        term.next,
         &window,
     );
     Some(size)
@@ -89,25 +82,17 @@ fn read_back(rt: &impl Print, log: &[u8]) -> anyhow::Result<()> {
     let mut reader = LogReader::<Serial>::new(log);
     for _ in 0..=log.len() {
         match reader.step() {
-            Step::Row {
-                at,
-                section,
-                key,
-                next_section,
-                next_position,
-                value,
-            } => {
-                let serial: Serial = <Serial as Key>::decode(key);
-                let Some(window) = <Window as Value>::decode(value) else {
+            Step::Row { at, row } => {
+                let serial: Serial = <Serial as Key>::decode(row.key);
+                let Some(window) = <Window as Value>::decode(row.value) else {
                     return Err(anyhow!("a value is no window"));
                 };
                 let term = Term {
-                    section,
+                    section: row.section,
                     serial: serial.value,
                     first: window.first(),
                     end: window.end(),
-                    next_section,
-                    next_position,
+                    next: row.next,
                 };
                 println!(rt; "  row at {at}: {term}")?;
             }
@@ -162,32 +147,31 @@ fn run(rt: &impl Print) -> anyhow::Result<()> {
             serial: 1001,
             first: 20,
             end: 50,
-            next_section: NO_PLACE,
-            next_position: NO_PLACE,
+            next: Place::NONE,
         },
         Term {
             section: 0,
             serial: 1002,
             first: 30,
             end: 60,
-            next_section: NO_PLACE,
-            next_position: NO_PLACE,
+            next: Place::NONE,
         },
         Term {
             section: 1,
             serial: 1001,
             first: 50,
             end: 80,
-            next_section: 0,
-            next_position: 0,
+            next: Place {
+                section: 0,
+                position: 0,
+            },
         },
         Term {
             section: 1,
             serial: 1003,
             first: 10,
             end: 90,
-            next_section: NO_PLACE,
-            next_position: NO_PLACE,
+            next: Place::NONE,
         },
     ];
     let mut log = [0u8; 256];

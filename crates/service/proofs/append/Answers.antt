@@ -10,8 +10,8 @@ returns c =
     let at = c.args.at in
     let n = c.row_size-size.result in
     let t = c.args.term.now in
-    let row : c.write_row.new.out ≡ row_bytes (log_row t.section (be 8 t.serial) t.next_section t.next_position (be 8 t.first ++ be 8 t.end)) =
+    let row : c.write_row.new.out ≡ row_bytes (log_row t.section (be 8 t.serial) t.next.section t.next.position (be 8 t.first ++ be 8 t.end)) =
     c.write_row.ensures.written
-    ∙ (λ i. row_bytes (log_row t.section (be 8 t.serial) t.next_section t.next_position (be 8 (c.new-window.ensures.first i) ++ be 8 (c.new-window.ensures.end i)))) in
+    ∙ (λ i. row_bytes (log_row t.section (be 8 t.serial) t.next.section t.next.position (be 8 (c.new-window.ensures.first i) ++ be 8 (c.new-window.ensures.end i)))) in
     let back : drop (at + n - at) (drop at log) ≡ drop (at + n) log = drop-drop (at + n - at) at log ∙ ap (λ m. drop m log) (omega arith) in
     record { answer = search rules; after = λ i. take at log ++ (row i ++ back i) }

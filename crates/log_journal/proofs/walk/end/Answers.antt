@@ -1,33 +1,30 @@
-use Rattle.std.proofs.Common.{◌≡◌, length, ap, ◌∙◌, arith}
+use Rattle.std.proofs.Common.{◌≡◌, sym, ◌∙◌, arith, rules}
+use Rattle.std.proofs.lemmas.Iterator.{YieldsList-from_map}
+use Rattle.std.proofs.lemmas.Iterator.Consumers.{YieldsList-at, YieldsList-from_first, fits_by_from_yields_list, sum_by_from_yields_List}
 use Rattle.codec.specs.Rounds.{under_of}
-use Rattle.journal.specs.Log.{log_bytes, log_row}
-use Rattle.log_journal.specs.Kept.{log_end}
-use Rattle.journal.proofs.Lengths.{length_first}
+use Rattle.journal.specs.Left.{rows_left}
+use Rattle.journal.specs.Log.{row_shown}
+use Rattle.log_journal.specs.Kept.{log_end, rows_in}
+use Rattle.log_journal.proofs.Walks.{end_within, size_in, sizes}
 use Rattle.log_journal.proofs.Split.{rows_front, rows_rising}
-use Rattle.log_journal.proofs.Turns.{left_in, next_at, next_rows, no_rows}
 use Rattle.log_journal.proofs.walk.end.Goals as goal
 
-pub loop-value-preserved : goal.loop-value-preserved
-loop-value-preserved g c =
+pub sum-requires-clause-fits : goal.sum-requires-clause-fits
+sum-requires-clause-fits g c =
     let w = g.K.Key.WIDTH in
     let log = c.args.log.now in
-    let was = c.loop-value.reader in
-    let is = c.step.new.self in
-    let inv = c.loop-value.invariant in
-    let a = c.in-Row in
-    let h = a.ensures in
-    let r = log_row a.section a.key.now a.next.section a.next.position a.value.now in
-    let at = next_at w log was inv.0 is a.at r h.shown h.at in
-    let rows = next_rows w log was inv.0 is a.at r h.shown h.at h.last in
-    let long = ap (λ rs. length (log_bytes rs)) rows in
-    let first = length_first w r (left_in w log is) h.key in
-    (h.log ∙ inv.0, omega (arith, c.WIDTH-width.ensures), omega (arith, c.WIDTH-width.ensures))
+    let within = end_within w log c.type_inv.log in
+    fits_by_from_yields_list size_in (rows_in w log) c.map.result _
+    (YieldsList-from_map _ size_in (YieldsList-at c.map.ensures.source (YieldsList-from_first row_shown (rows_left w) (rows_in w log) c.new.ensures.left)) c.map.ensures.closure (λ x r q k. search rules))
+    (omega (arith, sizes (rows_in w log)))
 
 pub returns : goal.returns
 returns g c =
     let w = g.K.Key.WIDTH in
     let log = c.args.log.now in
-    let none = no_rows w log c.loop-value.reader c.loop-value.invariant.0 c.step.result c.step.ensures.shown c.in_default.not-Row in
-    let end : c.loop-value.end ≡ log_end w log = omega (arith, c.loop-value.invariant.2, ap (λ rs. length (log_bytes rs)) none) in
     let u = under_of log (λ i. (c.type_inv.log i).fits) in
-    record { end = end; front = rows_front w log u c.loop-value.end end; rising = rows_rising w log u }
+    let end : c.sum.result ≡ log_end w log =
+    sum_by_from_yields_List size_in (rows_in w log) c.map.result c.sum.result c.sum.ensures.ran
+    (YieldsList-from_map _ size_in (YieldsList-at c.map.ensures.source (YieldsList-from_first row_shown (rows_left w) (rows_in w log) c.new.ensures.left)) c.map.ensures.closure (λ x r q k. search rules))
+    ∙ sym (sizes (rows_in w log)) in
+    record { end = end; front = rows_front w log u c.sum.result end; rising = rows_rising w log u }

@@ -1,22 +1,21 @@
-use Rattle.std.proofs.Common.{sym, ap, ◌∙◌}
+use Rattle.std.proofs.Common.{◌≡◌, map, None, ap, ◌∙◌, rules}
+use Rattle.std.specs.Option.{option_map}
+use Rattle.std.proofs.lemmas.Iterator.{items_from_drains}
+use Rattle.std.proofs.lemmas.Iterator.Consumers.{YieldsList-from_first}
 use Rattle.journal.specs.Flat.{sections_from}
-use Rattle.journal.specs.Log.{log_row}
-use Rattle.log_journal.specs.Kept.{kept_row, section_in}
+use Rattle.journal.specs.Left.{rows_left}
+use Rattle.journal.specs.Log.{row_shown}
+use Rattle.log_journal.specs.Kept.{kept_row, rows_in, section_in}
 use Rattle.log_journal.proofs.Sections.{above, highest_is}
-use Rattle.log_journal.proofs.Turns.{next_rows, no_rows}
+use Rattle.log_journal.proofs.Walks.{last_seen}
 use Rattle.log_journal.proofs.walk.highest.Goals as goal
-
-pub loop-section-preserved : goal.loop-section-preserved
-loop-section-preserved g c =
-    let inv = c.loop-section.invariant in
-    let a = c.in-Row in
-    let h = a.ensures in
-    let r = log_row a.section a.key.now a.next.section a.next.position a.value.now in
-    let rows = next_rows g.K.Key.WIDTH c.args.log.now c.loop-section.reader inv.0 c.step.new.self a.at r h.shown h.at h.last in
-    (h.log ∙ inv.0, sym (ap (sections_from section_in (kept_row g.K.DecodedKey.decoding) (above c.loop-section.highest)) rows) ∙ inv.1)
 
 pub returns : goal.returns
 returns g c =
-    let inv = c.loop-section.invariant in
-    let none = no_rows g.K.Key.WIDTH c.args.log.now c.loop-section.reader inv.0 c.step.result c.step.ensures.shown c.in_default.not-Row in
-    highest_is c.loop-section.highest _ (sym (ap (sections_from section_in (kept_row g.K.DecodedKey.decoding) (above c.loop-section.highest)) none) ∙ inv.1)
+    let w = g.K.Key.WIDTH in
+    let d = g.K.DecodedKey.decoding in
+    let log = c.args.log.now in
+    let (xs, ran, is) = c.last.ensures.ran in
+    let all : map row_shown xs ≡ rows_in w log = items_from_drains xs (ran.1.0, ran.1.1, λ _. (ran.0, ran.1.2)) (YieldsList-from_first row_shown (rows_left w) (rows_in w log) c.new.ensures.left) in
+    let last : c.map.result ≡ option_map (λ v. v.section) c.last.result = search rules in
+    highest_is c.map.result _ (ap above (last ∙ ap (option_map (λ v. v.section)) is) ∙ last_seen d None xs ∙ ap (sections_from section_in (kept_row d) 0) all)

@@ -1,15 +1,11 @@
-use Rattle.std.proofs.Common.{sym, ap, ◌∙◌}
-use Rattle.codec.specs.Rounds.{under_of}
-use Rattle.journal.specs.Rows.{decoded}
+use Rattle.std.proofs.Common.{Some, ap, ◌∙◌}
+use Rattle.std.specs.Option.{ok_or}
+use Rattle.journal.specs.declared.fault.JournalFault.TheVariants.{Kind}
 use Rattle.journal.proofs.StoredBack.{there_decoded}
+use Rattle.log_journal.proofs.Walks.{octets}
 use Rattle.log_journal.proofs.walk.read_value.Goals as goal
 
-pub returns-in-Some : goal.returns-in-Some
-returns-in-Some g c =
+pub returns : goal.returns
+returns g c =
     let bs = c.args.value.now in
-    ap (decoded g.V.Value.decoding c.args.place) c.in-Some.ensures ∙ sym (there_decoded g.V.Value.decoding bs (under_of bs (λ i. (c.type_inv.value i).fits)) c.args.place)
-
-pub returns-in-None : goal.returns-in-None
-returns-in-None g c =
-    let bs = c.args.value.now in
-    ap (decoded g.V.Value.decoding c.args.place) c.in-None.ensures ∙ sym (there_decoded g.V.Value.decoding bs (under_of bs (λ i. (c.type_inv.value i).fits)) c.args.place)
+    c.ok_or.ensures.value ∙ ap (λ o. ok_or o (Kind (Some c.args.place))) c.decode.ensures ∙ there_decoded g.V.Value.decoding bs (octets bs c.type_inv.value) c.args.place

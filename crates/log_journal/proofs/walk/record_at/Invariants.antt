@@ -1,15 +1,19 @@
-use Rattle.std.proofs.Common.{◌≡◌, ◌-◌, ◌≤◌, length}
-use Rattle.journal.specs.Flat.{rows_of}
-use Rattle.log_journal.specs.Kept.{kept_row, rows_in, section_in}
-use Rattle.log_journal.proofs.Sections.{record_from}
-use Rattle.log_journal.proofs.Turns.{left_in}
+use Rattle.std.proofs.Common.{◌≡◌, ◌+◌}
+use Rattle.std.specs.List.{AllByRecursion}
+use Rattle.journal.specs.Answers.{record_there}
+use Rattle.journal.specs.Left.{rows_left}
+use Rattle.journal.specs.Rows.{row_at, stored_bytes}
+use Rattle.log_journal.specs.Kept.{rows_in}
+use Rattle.log_journal.proofs.Sections.{of_section, record_from}
+use Rattle.log_journal.proofs.Split.{KeySound}
 use Rattle.log_journal.proofs.walk.record_at.Given as goal
 
-abbrev pub invariant-loop-own : goal.invariant-loop-own
-invariant-loop-own g l =
-    (l.reader.log.now ≡ l.log)
-    × (l.offset ≤ l.reader.at)
-    × (record_from l.offset (rows_of section_in (kept_row g.K.DecodedKey.decoding) l.place.section (left_in g.K.Key.WIDTH l.log l.reader)) l.left ≡ record_from 0 (rows_of section_in (kept_row g.K.DecodedKey.decoding) l.place.section (rows_in g.K.Key.WIDTH l.log)) l.place.position)
-
-abbrev pub decreases-loop-own : goal.decreases-loop-own
-decreases-loop-own g l = length l.log - l.reader.at
+abbrev pub invariant-loop-row : goal.invariant-loop-row
+invariant-loop-row g l =
+    let left = of_section g.K.DecodedKey.decoding l.place.section (rows_left g.K.Key.WIDTH l.row-iterator) in
+    let all = of_section g.K.DecodedKey.decoding l.place.section (rows_in g.K.Key.WIDTH l.log) in
+    record {
+      keys : AllByRecursion (KeySound g.K.Key.WIDTH) (rows_left g.K.Key.WIDTH l.row-iterator);
+      bytes : l.offset + stored_bytes left ≡ stored_bytes all;
+      found : record_from l.offset left l.left ≡ record_there all l.place.position (row_at all l.place.position);
+    }

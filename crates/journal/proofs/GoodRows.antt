@@ -1,8 +1,7 @@
 -- The good rows at the front of bytes, one by one.
-use Rattle.std.proofs.Common.{◌≡◌, ℕ, zero, suc, ◌≤◌, true, false, cond, ltb, leb, List, [], ◌∷◌, length, get_or, drop, sym, refl, ap, ◌∙◌, ⊎_elim, arith, length-drop}
-use Rattle.std.proofs.lemmas.Bool.{and_parts, and_left, and_right, or_cases, cases_Bool, cond-true, cond-false, eqb-true, lt-leb, ltb-true, ne_eqb}
-use Rattle.journal.specs.Log.{LogRow, Shown, row, blank, spoiled, is_blank, is_marked, is_row, look, row_of, row_len, section_of, value_of}
-use Rattle.log_journal.specs.Kept.{log_rows, rows_from}
+use Rattle.std.proofs.Common.{◌≡◌, ℕ, zero, suc, ◌≤◌, true, false, cond, List, [], ◌∷◌, length, drop, refl, ap, arith, length-drop}
+use Rattle.std.proofs.lemmas.Bool.Decides.{nat_tests}
+use Rattle.journal.specs.Log.{LogRow, Shown, row, blank, spoiled, is_blank, is_row, log_rows, look, row_of, row_len, rows_from, section_of, value_of}
 
 -- fuel beyond the length of the bytes makes no difference
 same_fuel : (f g w last : ℕ) (bs : List ℕ) → length bs ≤ f → length bs ≤ g → log_rows f w last bs ≡ log_rows g w last bs
@@ -34,19 +33,11 @@ shown_rows w bs (blank at) = []
 shown_rows w bs (spoiled at) = []
 
 blank_no_row : (w last : ℕ) (bs : List ℕ) → is_blank bs ≡ true → is_row w last bs ≡ false
-blank_no_row w last bs h =
-    ⊎_elim
-    (λ short. and_right (is_marked bs) _ (and_left (leb (row_len w 0) (length bs)) _ (lt-leb (row_len w 0) (length bs) (omega (arith, ltb-true (length bs) 2 short)))))
-    (λ zeros. and_left (is_marked bs) _ (and_left _ _ (ne_eqb (get_or bs 0 0) 0x46 (λ e. omega (arith, eqb-true (get_or bs 0 0) 0 (and_parts _ _ zeros).0)))))
-    (or_cases (ltb (length bs) 2) _ h)
+blank_no_row w last bs h = grind (arith, nat_tests)
 
 -- so a reader that steps over them shows each in turn
 pub rows_shown : (w last at : ℕ) (bs : List ℕ) → rows_from w last bs ≡ shown_rows w bs (look w last at bs)
 rows_shown w last at bs =
-    ⊎_elim
-    (λ h. unfold_rows w last bs ∙ cond-false (is_row w last bs) _ _ (blank_no_row w last bs h) ∙ ap (shown_rows w bs) (sym (cond-true (is_blank bs) _ _ h)))
-    (λ h. ⊎_elim
-    (λ k. unfold_rows w last bs ∙ cond-true (is_row w last bs) _ _ k ∙ ap (shown_rows w bs) (sym (cond-false (is_blank bs) _ _ h ∙ cond-true (is_row w last bs) _ _ k)))
-    (λ k. unfold_rows w last bs ∙ cond-false (is_row w last bs) _ _ k ∙ ap (shown_rows w bs) (sym (cond-false (is_blank bs) _ _ h ∙ cond-false (is_row w last bs) _ _ k)))
-    (cases_Bool (is_row w last bs)))
-    (cases_Bool (is_blank bs))
+    let first = unfold_rows w last bs in
+    let none = blank_no_row w last bs in
+    grind arith
