@@ -1,10 +1,10 @@
 -- What bytes keep as a journal: the good rows at their front.
-use Rattle.std.specs.Prelude.{◌≡◌, ℕ, zero, suc, ◌+◌, ◌-◌, cond, ◌&&◌, List, [], ◌∷◌, ◌++◌, length, replicate, Some, None, Option, ◌==◌, nat_lt}
+use Rattle.std.specs.Prelude.{◌≡◌, ℕ, ◌-◌, cond, ◌&&◌, List, [], ◌∷◌, ◌++◌, length, replicate, Some, None, Option, ◌==◌, nat_lt}
 use Rattle.std.specs.Coded.{Unit-prop}
 use Rattle.std.proofs.Props.{props}
 use Rattle.journal.specs.Rows.{Row, JournalMeaning, stored_of}
 use Rattle.journal.specs.Flat.{flat_means}
-use Rattle.journal.specs.Log.{LogRow, Rising, log_bytes, row_len}
+use Rattle.journal.specs.Log.{LogRow, Rising, log_bytes}
 pub use Rattle.journal.specs.Log.{rows_from, rows_in}
 
 -- the section of a row
