@@ -31,6 +31,7 @@ pub enum JournalFault {
 }
 
 impl JournalFault {
+    // The number by which the project knows the refusal; the enum is what code goes by.
     pub fn number(&self) -> u8
         ensures { result ≡ journal_number self.now }
     {

@@ -1,6 +1,7 @@
 // What one step of a reader shows, and where it stands.
 use crate::row::RowView;
 
+// Not an Option: a blank and a spoiled tail are told apart. The rows alone are `LogReader` as an iterator.
 #[derive(Clone, Copy)]
 pub enum Step<'a> {
     Row { at: usize, row: RowView<'a> },

@@ -12,6 +12,7 @@ use journal::{Cursor, Journal, JournalFault, Place, Record, in_limits, row_size,
 use std::marker::PhantomData;
 
 // Its rows take the first `used` bytes.
+// No heap: the bytes are lent and of a fixed size, so the count of those in use stands beside them.
 #[derive(Drop)]
 pub struct LogJournal<'a, K: Key> {
     bytes: &'a mut [u8],

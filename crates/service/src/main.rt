@@ -80,6 +80,7 @@ fn lay_out(rt: &impl Print, log: &mut [u8], terms: &[Term]) -> anyhow::Result<()
 
 fn read_back(rt: &impl Print, log: &[u8]) -> anyhow::Result<()> {
     let mut reader = LogReader::<Serial>::new(log);
+    // Counted, and not over the reader's rows: that a key has its kind's width, which `decode` asks, comes with `step`.
     for _ in 0..=log.len() {
         match reader.step() {
             Step::Row { at, row } => {
