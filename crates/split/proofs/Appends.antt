@@ -11,13 +11,13 @@ use Rattle.journal.specs.Rows.{Row, append, append_fault, apply, in_bounds, late
 use Rattle.journal.proofs.Flat.{flat_append}
 use Rattle.journal.proofs.StoredBack.{length_stored}
 use Rattle.journal.proofs.Tells.{append_tells, fault_none}
-use Rattle.split.specs.declared.place.Place.{Place}
+use Rattle.split.specs.declared.place.Spot.{Spot}
 use Rattle.split.specs.declared.section.Section.{Section}
 use Rattle.split.specs.Directory.{before, end_byte, end_row, entry, entry_of, numbers, top}
 use Rattle.split.specs.Parts.{Part, Laid, byte_total, flat, has_space, label, over, parts_mean, row_total, rows_at, IsSplitGood, split_means, unlabelled}
 use Rattle.split.specs.Plans.{at_entry, entry_with, place_of}
 use Rattle.split.proofs.Around.{none_over, sections_are}
-use Rattle.split.proofs.Changes.{appended, flat_added, with_rows}
+use Rattle.split.proofs.Changes.{appended, flat_added, stored, with_rows, written}
 use Rattle.split.proofs.Looks.{sectioned}
 use Rattle.split.proofs.Ready.{rows_mean, top_is}
 use Rattle.split.proofs.Reread.{regood, reread}
@@ -45,7 +45,7 @@ module _ {K : Type 0} (bytes : K → List ℕ) (w : ℕ) (sized : (k : K) → le
   module _ (d : Section) (width rows byte_end : ℕ) (e : d ≡ entry_of s 0 0 (take (used - 0) directory)) (wide : width ≡ w)
       (r : rows ≡ end_row 0 (take (used - 0) directory)) (b : byte_end ≡ end_byte 0 (take (used - 0) directory)) where
     pub place_there : (len at : ℕ) → ltb (suc s) (top 0 (take (used - 0) directory)) ≡ false → (space len && in_bounds (w + 28) (parts_mean ps) s (len + 4)) ≡ true → at ≡ before s (numbers (take (used - 0) directory)) →
-        ◌≡◌ {A = Result Place JournalFault} (Ok (record { at = at; row = rows * (width + 28); byte = byte_end; entry = d })) (answered (append_fault (space len) (w + 28) (parts_mean ps) s (len + 4)) (place_of s ps w))
+        ◌≡◌ {A = Result Spot JournalFault} (Ok (record { at = at; row = rows * (width + 28); byte = byte_end; entry = d })) (answered (append_fault (space len) (w + 28) (parts_mean ps) s (len + 4)) (place_of s ps w))
     place_there len at t q found =
         let known = sectioned bytes w sized decoding back used directory records values ps h s d width e wide in
         let none : append_fault (space len) (w + 28) (parts_mean ps) s (len + 4) ≡ None = fault_none (later_than s (parts_mean ps)) _ (Below s) (Full s) (sym later_is ∙ t) q in
@@ -112,7 +112,7 @@ module _ {K : Type 0} (bytes : K → List ℕ) (w : ℕ) (sized : (k : K) → le
       size = ap (λ n. n + 4) (sym long) ∙ sym (length_stored enc)
 
       -- the memory afterwards
-      abbrev AfterAppend : Place → ℕ → ℕ → List ℕ → List ℕ → List (Part K) → Type 0
+      abbrev AfterAppend : Spot → ℕ → ℕ → List ℕ → List ℕ → List (Part K) → Type 0
       AfterAppend p wide n recs vals qs = Laid bytes w (p.at + 1) (set directory p.at (entry s p.entry.first_row p.entry.first_byte (p.entry.rows + 1) (p.entry.bytes + n)))
           (put_mid p.row (p.row + wide - p.row) records recs) (put_mid p.byte (p.byte + n - p.byte) values vals) qs
 
@@ -122,7 +122,7 @@ module _ {K : Type 0} (bytes : K → List ℕ) (w : ℕ) (sized : (k : K) → le
           appended bytes w sized s ps h.proper row (record { next_section_fits = ns_fits; next_position_fits = np_fits; has_check = omega (arith, size); size_fits = omega (arith, size) }) highest (omega (arith, bound, size))
           used (at_entry s ps) _ _ directory records values h refl (before_used bytes w sized decoding back used directory records values ps h s (at_entry s ps) refl) at_inside (omega arith) (omega arith)
 
-      pub record Left (p : Place) (wide n : ℕ) (recs vals : List ℕ) : Type 0 where
+      pub record Left (p : Spot) (wide n : ℕ) (recs vals : List ℕ) : Type 0 where
         pub answer : Ok (p.entry.rows, p.entry.bytes, n) ≡ append_answer (w + 28) (parts_mean ps) (space (length enc)) s enc
         pub after : split_means decoding w (p.at + 1) (set directory p.at (entry s p.entry.first_row p.entry.first_byte (p.entry.rows + 1) (p.entry.bytes + n))) (put_mid p.row (p.row + wide - p.row) records recs) (put_mid p.byte (p.byte + n - p.byte) values vals)
             ≡ append_after (w + 28) (parts_mean ps) (space (length enc)) s k ns np enc
@@ -144,7 +144,20 @@ module _ {K : Type 0} (bytes : K → List ℕ) (w : ℕ) (sized : (k : K) → le
             good = regood bytes w sized decoding back _ _ _ _ _ laid;
           }
 
-      pub left : (p : Place) (wide n : ℕ) (recs vals : List ℕ) → p ≡ place_of s ps w → wide ≡ w + 28 → n ≡ len + 4 → recs ≡ record_encoding bytes (record_with k ns np p.entry.bytes n) → vals ≡ stored_of enc → Left p wide n recs vals
+      -- good order once the record is written, and once the value is
+      pub recorded : (p : Spot) (wide : ℕ) (recs : List ℕ) → p ≡ place_of s ps w → wide ≡ w + 28 → length recs ≡ wide →
+          IsSplitGood decoding w used directory (put_mid p.row (p.row + wide - p.row) records recs) values bytes
+      recorded p wide recs e f a =
+          subst (λ (p : Spot). IsSplitGood decoding w used directory (put_mid p.row (p.row + wide - p.row) records recs) values bytes) (sym e)
+          (regood bytes w sized decoding back _ _ _ _ _ (written bytes w sized s ps h.proper used directory records values h _ recs (omega arith)))
+
+      pub kept : (p : Spot) (wide n : ℕ) (recs vals : List ℕ) → p ≡ place_of s ps w → wide ≡ w + 28 → length recs ≡ wide → length vals ≡ n →
+          IsSplitGood decoding w used directory (put_mid p.row (p.row + wide - p.row) records recs) (put_mid p.byte (p.byte + n - p.byte) values vals) bytes
+      kept p wide n recs vals e f a b =
+          subst (λ (p : Spot). IsSplitGood decoding w used directory (put_mid p.row (p.row + wide - p.row) records recs) (put_mid p.byte (p.byte + n - p.byte) values vals) bytes) (sym e)
+          (regood bytes w sized decoding back _ _ _ _ _ (stored bytes w sized s ps h.proper used directory _ values (written bytes w sized s ps h.proper used directory records values h _ recs (omega arith)) _ vals (omega arith)))
+
+      pub left : (p : Spot) (wide n : ℕ) (recs vals : List ℕ) → p ≡ place_of s ps w → wide ≡ w + 28 → n ≡ len + 4 → recs ≡ record_encoding bytes (record_with k ns np p.entry.bytes n) → vals ≡ stored_of enc → Left p wide n recs vals
       left p wide n recs vals e f g a b =
           let m : n ≡ length (stored_of enc) = g ∙ size in
           let recs_are : recs ≡ record_encoding bytes (record_with k ns np (stored_bytes (rows_at s ps)) (length (stored_of enc))) = a ∙ (λ i. record_encoding bytes (record_with k ns np (e i).entry.bytes (m i))) in

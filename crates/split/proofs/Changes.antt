@@ -139,6 +139,34 @@ module _ {K : Type 0} (bytes : K → List ℕ) (w : ℕ) (sized : (k : K) → le
     pub left : (n : ℕ) → n ≡ before s (numbers (directory_of 0 0 ps)) → n ≤ used → take n directory ≡ directory_of 0 0 (under s ps) ++ []
     left n e l = front n e l ∙ sym (append-nil (directory_of 0 0 (under s ps)))
 
+  -- ---- what is written behind the sections leaves them
+
+  pub written : (used : ℕ) (directory : List Section) (records values : List ℕ) → Laid bytes w used directory records values ps → (k : ℕ) (out : List ℕ) → length out ≡ k →
+      Laid bytes w used directory (put_mid (row_total ps * (w + 28)) k records out) values ps
+  written used directory records values h k out long = record {
+    within = h.within;
+    entries = h.entries;
+    recorded =
+        front_kept (row_total ps * (w + 28)) (records_of bytes ps) _ _ (length_records bytes w sized ps)
+        (piece (row_total ps * (w + 28)) k _ (records_of bytes ps) records records out out (length_records bytes w sized ps) long refl h.recorded refl
+        ∙ append_assoc (records_of bytes ps) out (drop (row_total ps * (w + 28) + k) records));
+    kept = h.kept;
+    proper = h.proper;
+  }
+
+  pub stored : (used : ℕ) (directory : List Section) (records values : List ℕ) → Laid bytes w used directory records values ps → (k : ℕ) (out : List ℕ) → length out ≡ k →
+      Laid bytes w used directory records (put_mid (byte_total ps) k values out) ps
+  stored used directory records values h k out long = record {
+    within = h.within;
+    entries = h.entries;
+    recorded = h.recorded;
+    kept =
+        front_kept (byte_total ps) (values_of ps) _ _ (length_values ps)
+        (piece (byte_total ps) k _ (values_of ps) values values out out (length_values ps) long refl h.kept refl
+        ∙ append_assoc (values_of ps) out (drop (byte_total ps + k) values));
+    proper = h.proper;
+  }
+
   -- ---- an append to the highest section
 
   module _ (r : Row K) (fits : RowFits r) (none : over s ps ≡ []) (bound : stored_bytes (rows_at s ps) + length r.stored ≤ 2 ^ 63) where

@@ -6,6 +6,7 @@ use Rattle.journal.specs.declared.fault.JournalFault.TheVariants.{NoRow}
 use Rattle.journal.specs.declared.record.Record.{Record}
 use Rattle.journal.specs.Answers.{get_answer, or_no_row, record_of, record_there}
 use Rattle.journal.specs.Layouts.{RecordFits, record_encoding}
+use Rattle.journal.specs.Places.{place}
 use Rattle.journal.specs.Rows.{Row, row_at, stored_at, stored_bytes}
 use Rattle.split.specs.declared.section.Section.{Section}
 use Rattle.split.specs.Directory.{Rising, entry, entry_of}
@@ -41,12 +42,12 @@ module _ {K : Type 0} (bytes : K → List ℕ) (w : ℕ) (sized : (k : K) → le
   there : (p : ℕ) → get_answer (parts_mean ps) s p ≡ or_no_row s p (record_there (rows_at s ps) p (row_at (rows_at s ps) p))
   there p = ap (λ (rows : List (Row K)). or_no_row s p (record_there rows p (row_at rows p))) mean
 
-  pub get_none : (p : ℕ) → length (rows_at s ps) ≤ p → ◌≡◌ {A = Result (Record K) JournalFault} (Err (NoRow s p)) (get_answer (parts_mean ps) s p)
+  pub get_none : (p : ℕ) → length (rows_at s ps) ≤ p → ◌≡◌ {A = Result (Record K) JournalFault} (Err (NoRow (place s p))) (get_answer (parts_mean ps) s p)
   get_none p l = sym (there p ∙ ap (λ (o : Option (Row K)). or_no_row s p (record_there (rows_at s ps) p o)) (row_past (rows_at s ps) p l))
 
   pub get_some : (p at size : ℕ) (q : Record K) → p < length (rows_at s ps) → size ≡ w + 28 → at ≡ (row_total (under s ps) + p) * (w + 28) →
       ((r : Record K) → RecordFits r → record_encoding bytes r ≡ take (at + size - at) (drop at records) → q ≡ r) → Ok q ≡ get_answer (parts_mean ps) s p
-  get_some p at size q l wide place one =
+  get_some p at size q l wide stands one =
       let found = row_there (rows_at s ps) p l in
       let r = found.0 in
       let fit = fit_at s 0 ps h.proper in
@@ -54,7 +55,7 @@ module _ {K : Type 0} (bytes : K → List ℕ) (w : ℕ) (sized : (k : K) → le
       let offset = stored_bytes (take p (rows_at s ps)) in
       let n : w + 28 ≡ at + size - at = omega arith in
       let slice : record_encoding bytes (record_of offset r) ≡ take (at + size - at) (drop at records) =
-      sym (record_in bytes w sized s 0 p ps h.proper records _ h.recorded r found.1) ∙ (λ i. take (n i) (drop (sym place i) records)) in
+      sym (record_in bytes w sized s 0 p ps h.proper records _ h.recorded r found.1) ∙ (λ i. take (n i) (drop (sym stands i) records)) in
       let is : q ≡ record_of offset r = one (record_of offset r) (record_fits bytes w sized decoding back offset r good.0 (omega (arith, good.1, fit.bounded))) slice in
       ap Ok is ∙ sym (there p ∙ ap (λ (o : Option (Row K)). or_no_row s p (record_there (rows_at s ps) p o)) found.1)
 

@@ -1,11 +1,11 @@
 -- Whether a row fits, by the numbers that the code has.
 use Rattle.std.proofs.Common.{◌≡◌, ℕ, ◌+◌, ◌-◌, ◌*◌, ◌≤◌, Bool, ◌&&◌, ◌||◌, ltb, List, length, take, sym, ap, ◌∙◌, arith}
 use Rattle.journal.specs.Answers.{fits_answer}
-use Rattle.journal.specs.Rows.{in_bounds, stored_bytes}
+use Rattle.journal.specs.Rows.{in_bounds, in_limits, stored_bytes}
 use Rattle.journal.proofs.StoredBack.{length_stored}
 use Rattle.split.specs.declared.section.Section.{Section}
 use Rattle.split.specs.Directory.{end_byte, end_row, entry_of}
-use Rattle.split.specs.Parts.{Part, Laid, has_space, in_limits, parts_mean, rows_at, row_total, byte_total}
+use Rattle.split.specs.Parts.{Part, Laid, has_space, parts_mean, rows_at, row_total, byte_total}
 use Rattle.split.proofs.Ready.{bytes_stand, end_byte_stands, end_row_stands, rows_mean, rows_stand}
 use Rattle.split.proofs.Standing.{bytes_sum, rows_sum}
 use Rattle.split.proofs.Looks.{Sectioned, sectioned}

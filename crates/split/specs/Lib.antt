@@ -2,3 +2,4 @@ pub mod Parts
 pub mod Directory
 pub mod Places
 pub mod Plans
+pub mod Single

@@ -4,7 +4,7 @@ use Rattle.journal.specs.declared.fault.JournalFault.{JournalFault}
 use Rattle.journal.specs.Answers.{answered}
 use Rattle.journal.specs.Rows.{append_fault, restore_fault, stored_bytes}
 use Rattle.split.specs.declared.place.Cut.{Cut}
-use Rattle.split.specs.declared.place.Place.{Place}
+use Rattle.split.specs.declared.place.Spot.{Spot}
 use Rattle.split.specs.declared.section.Section.{Section}
 use Rattle.split.specs.Directory.{before, entry, numbers}
 use Rattle.split.specs.Parts.{Part, byte_total, directory_of, row_total, rows_at, split_means, split_parts, split_space, under}
@@ -19,7 +19,7 @@ module _ {K : Type 0} (s : ℕ) (ps : List (Part K)) where
   entry_with rows bytes = entry s (row_total (under s ps)) (byte_total (under s ps)) rows bytes
 
   -- where a row goes
-  abbrev pub place_of : ℕ → Place
+  abbrev pub place_of : ℕ → Spot
   place_of w = record { at = at_entry; row = row_total ps * (w + 28); byte = byte_total ps; entry = entry_with (length (rows_at s ps)) (stored_bytes (rows_at s ps)) }
 
   -- where a restore to n rows cuts
@@ -28,7 +28,7 @@ module _ {K : Type 0} (s : ℕ) (ps : List (Part K)) where
 
 module _ {K : Type 0} (decoding : List ℕ → K) (w used : ℕ) (directory : List Section) (records values : List ℕ) where
   -- where a row with a value of n bytes goes, or 13, 10
-  abbrev pub place_answer : ℕ → ℕ → Result Place JournalFault
+  abbrev pub place_answer : ℕ → ℕ → Result Spot JournalFault
   place_answer s n =
       answered (append_fault (split_space decoding w used directory records values s n) (w + 28) (split_means decoding w used directory records values) s (n + 4))
       (place_of s (split_parts decoding w used directory records values) w)

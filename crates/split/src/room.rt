@@ -1,6 +1,7 @@
 // Room for one row more.
 ghost use Rattle.std.specs.Prelude.{◌≡◌, ◌*◌, ◌≤◌, ◌&&◌, ◌||◌, nat_lt};
-ghost use Rattle.split.specs.Parts.{has_space, in_limits};
+ghost use Rattle.journal.specs.Rows.{in_limits};
+ghost use Rattle.split.specs.Parts.{has_space};
 
 use crate::section::Section;
 

@@ -1,25 +1,30 @@
 // The split journal.
 ghost use Rattle.std.specs.Prelude.{◌≡◌, ◌≤◌, [], ◌∷◌};
-ghost use Rattle.split.specs.Parts.{IsSplitGood, split_means, split_space};
+ghost use Rattle.split.specs.Parts.{IsSplitGood, split_means, split_parts, split_space};
 ghost use Rattle.split.specs.Plans.{cut_answer, place_answer};
+ghost use Rattle.split.specs.Single.{Laid-prop};
 
 use crate::directory::{before, end, entry_of, highest, is_below};
-use crate::place::{Cut, Place, enter};
+use crate::place::{Cut, Spot, enter};
 use crate::places::{has_place, stored_bytes};
 use crate::room::{Room, has_entry, has_room};
 use crate::section::Section;
 use codec::{DecodedKey, Key, Value};
-use journal::{Cursor, Journal, JournalFault, Record, read_stored, write_record, write_stored};
+use journal::{
+    Cursor, Journal, JournalFault, Place, Record, read_stored, write_record, write_stored,
+};
 use std::marker::PhantomData;
 
 // Records, stored values and a directory of sections in lent memory; `used` entries of the directory stand.
 #[derive(Drop)]
-pub struct SplitJournal<'a, K> {
+pub struct SplitJournal<'a, K: DecodedKey> {
     records: &'a mut [u8],
     values: &'a mut [u8],
     directory: &'a mut [Section],
     used: usize,
     kind: PhantomData<K>,
+    // Good order.
+    ghost ok: { IsSplitGood K.DecodedKey.decoding K.Key.WIDTH used directory.now records.now values.now K.Key.bytes } by { Laid-prop K.Key.bytes K.Key.WIDTH used directory.now records.now values.now (split_parts K.DecodedKey.decoding K.Key.WIDTH used directory.now records.now values.now) },
 }
 
 impl<'a, K: DecodedKey> SplitJournal<'a, K> {
@@ -36,7 +41,6 @@ impl<'a, K: DecodedKey> SplitJournal<'a, K> {
         ensures values { result.values.now ≡ values.old }
         ensures directory { result.directory.now ≡ directory.old }
         ensures used { result.used ≡ 0 }
-        ensures good { IsSplitGood K.DecodedKey.decoding K.Key.WIDTH result.used result.directory.now result.records.now result.values.now K.Key.bytes }
     {
         SplitJournal {
             records,
@@ -48,8 +52,7 @@ impl<'a, K: DecodedKey> SplitJournal<'a, K> {
     }
 
     // Where a row with a value of so many bytes goes, or why it does not.
-    fn place(&self, section: u64, len: usize) -> Result<Place, JournalFault>
-        requires good { IsSplitGood K.DecodedKey.decoding K.Key.WIDTH self.now.used self.now.directory.now self.now.records.now self.now.values.now K.Key.bytes }
+    fn place(&self, section: u64, len: usize) -> Result<Spot, JournalFault>
         requires short { len ≤ 4096 }
         ensures { result ≡ place_answer K.DecodedKey.decoding K.Key.WIDTH self.now.used self.now.directory.now self.now.records.now self.now.values.now section len }
     {
@@ -70,7 +73,7 @@ impl<'a, K: DecodedKey> SplitJournal<'a, K> {
         if !has_room(room, entry, rows, bytes, size, len + 4) {
             return Err(JournalFault::Full(section));
         }
-        Ok(Place {
+        Ok(Spot {
             at,
             row: rows as usize * size,
             byte: bytes as usize,
@@ -81,7 +84,6 @@ impl<'a, K: DecodedKey> SplitJournal<'a, K> {
     // Where a restore to so many record bytes of a section cuts the directory, and the section's entry then; or why it is
     // refused.
     fn cut(&self, section: u64, bytes: u64) -> Result<Cut, JournalFault>
-        requires { IsSplitGood K.DecodedKey.decoding K.Key.WIDTH self.now.used self.now.directory.now self.now.records.now self.now.values.now K.Key.bytes }
         ensures { result ≡ cut_answer K.DecodedKey.decoding K.Key.WIDTH self.now.used self.now.directory.now self.now.records.now self.now.values.now section bytes }
     {
         let used = self.used;
@@ -107,8 +109,6 @@ impl<'a, K: DecodedKey> SplitJournal<'a, K> {
 
 impl<'a, K: DecodedKey, V: Value> Journal<K, V> for SplitJournal<'a, K> {
     ghost means = { λ j. split_means K.DecodedKey.decoding K.Key.WIDTH j.used j.directory.now j.records.now j.values.now };
-
-    ghost good = { λ j. IsSplitGood K.DecodedKey.decoding K.Key.WIDTH j.used j.directory.now j.records.now j.values.now K.Key.bytes };
 
     ghost space = { λ j. split_space K.DecodedKey.decoding K.Key.WIDTH j.used j.directory.now j.records.now j.values.now };
 

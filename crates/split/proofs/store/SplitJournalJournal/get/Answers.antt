@@ -11,14 +11,14 @@ use Rattle.split.proofs.store.SplitJournalJournal.get.Goals as goal
 pub entry_of-entry-requires : goal.entry_of-entry-requires
 entry_of-entry-requires g c =
     let j = c.args.self.now in
-    ready g.K.Key.bytes g.K.Key.WIDTH g.met.K.Key.sized j.used j.directory.now j.records.now j.values.now _ c.requires (omega arith) (omega arith)
+    ready g.K.Key.bytes g.K.Key.WIDTH g.met.K.Key.sized j.used j.directory.now j.records.now j.values.now _ c.args.self.now.ok (omega arith) (omega arith)
 
-pub returns-then-position-entry : goal.returns-then-position-entry
-returns-then-position-entry g c =
+pub returns-then-place-entry : goal.returns-then-place-entry
+returns-then-place-entry g c =
     let j = c.args.self.now in
-    let s = c.args.section in
-    let is = c.entry_of-entry.ensures ∙ entry_at g.K.Key.bytes g.K.Key.WIDTH g.met.K.Key.sized j.used j.directory.now j.records.now j.values.now _ c.requires s in
-    get_none g.K.Key.bytes g.K.Key.WIDTH g.met.K.Key.sized g.K.DecodedKey.decoding (key_back g.K.Key.bytes g.K.DecodedKey.decoding g.K.Key.WIDTH g.met.K.Key.sized g.met.K.Key.octets g.met.K.Key.same g.met.K.DecodedKey.decoded) j.used j.directory.now j.records.now j.values.now _ c.requires s c.args.position (omega (arith, ap (λ (e : Section). e.rows) is, c.if-position-entry.true))
+    let s = c.args.place.section in
+    let is = c.entry_of-entry.ensures ∙ entry_at g.K.Key.bytes g.K.Key.WIDTH g.met.K.Key.sized j.used j.directory.now j.records.now j.values.now _ c.args.self.now.ok s in
+    get_none g.K.Key.bytes g.K.Key.WIDTH g.met.K.Key.sized g.K.DecodedKey.decoding (key_back g.K.Key.bytes g.K.DecodedKey.decoding g.K.Key.WIDTH g.met.K.Key.sized g.met.K.Key.octets g.met.K.Key.same g.met.K.DecodedKey.decoded) j.used j.directory.now j.records.now j.values.now _ c.args.self.now.ok s c.args.place.position (omega (arith, ap (λ (e : Section). e.rows) is, c.if-place-entry.true))
 
 -- where the record stands
 place : {K : Type 0} (bytes : K → List ℕ) (w : ℕ) (sized : (k : K) → length (bytes k) ≡ w) (used : ℕ) (directory : List Section) (records values : List ℕ) (ps : List (Part K)) (h : Laid bytes w used directory records values ps) (s p width : ℕ) (e : Section) →
@@ -35,31 +35,31 @@ place bytes w sized used directory records values ps h s p width e is wide l =
 pub overflow_add-at : goal.overflow_add-at
 overflow_add-at g c =
     let j = c.args.self.now in
-    let t = place g.K.Key.bytes g.K.Key.WIDTH g.met.K.Key.sized j.used j.directory.now j.records.now j.values.now _ c.requires c.args.section c.args.position g.K.Key.WIDTH c.entry_of-entry.result c.entry_of-entry.ensures refl c.if-position-entry.false in
+    let t = place g.K.Key.bytes g.K.Key.WIDTH g.met.K.Key.sized j.used j.directory.now j.records.now j.values.now _ c.args.self.now.ok c.args.place.section c.args.place.position g.K.Key.WIDTH c.entry_of-entry.result c.entry_of-entry.ensures refl c.if-place-entry.false in
     omega arith
 
 pub overflow_mul-at : goal.overflow_mul-at
 overflow_mul-at g c =
     let j = c.args.self.now in
-    let t = place g.K.Key.bytes g.K.Key.WIDTH g.met.K.Key.sized j.used j.directory.now j.records.now j.values.now _ c.requires c.args.section c.args.position c.WIDTH-size.result c.entry_of-entry.result c.entry_of-entry.ensures c.WIDTH-size.ensures c.if-position-entry.false in
+    let t = place g.K.Key.bytes g.K.Key.WIDTH g.met.K.Key.sized j.used j.directory.now j.records.now j.values.now _ c.args.self.now.ok c.args.place.section c.args.place.position c.WIDTH-size.result c.entry_of-entry.result c.entry_of-entry.ensures c.WIDTH-size.ensures c.if-place-entry.false in
     omega arith
 
 pub overflow_add-at-2 : goal.overflow_add-at-2
 overflow_add-at-2 g c =
     let j = c.args.self.now in
-    let t = place g.K.Key.bytes g.K.Key.WIDTH g.met.K.Key.sized j.used j.directory.now j.records.now j.values.now _ c.requires c.args.section c.args.position c.WIDTH-size.result c.entry_of-entry.result c.entry_of-entry.ensures c.WIDTH-size.ensures c.if-position-entry.false in
+    let t = place g.K.Key.bytes g.K.Key.WIDTH g.met.K.Key.sized j.used j.directory.now j.records.now j.values.now _ c.args.self.now.ok c.args.place.section c.args.place.position c.WIDTH-size.result c.entry_of-entry.result c.entry_of-entry.ensures c.WIDTH-size.ensures c.if-place-entry.false in
     omega arith
 
 pub slice_bounds-decode-end : goal.slice_bounds-decode-end
 slice_bounds-decode-end g c =
     let j = c.args.self.now in
-    let t = place g.K.Key.bytes g.K.Key.WIDTH g.met.K.Key.sized j.used j.directory.now j.records.now j.values.now _ c.requires c.args.section c.args.position c.WIDTH-size.result c.entry_of-entry.result c.entry_of-entry.ensures c.WIDTH-size.ensures c.if-position-entry.false in
+    let t = place g.K.Key.bytes g.K.Key.WIDTH g.met.K.Key.sized j.used j.directory.now j.records.now j.values.now _ c.args.self.now.ok c.args.place.section c.args.place.position c.WIDTH-size.result c.entry_of-entry.result c.entry_of-entry.ensures c.WIDTH-size.ensures c.if-place-entry.false in
     search rules
 
 pub returns : goal.returns
 returns g c =
     let j = c.args.self.now in
-    let s = c.args.section in
-    let is = c.entry_of-entry.ensures ∙ entry_at g.K.Key.bytes g.K.Key.WIDTH g.met.K.Key.sized j.used j.directory.now j.records.now j.values.now _ c.requires s in
-    let t = place g.K.Key.bytes g.K.Key.WIDTH g.met.K.Key.sized j.used j.directory.now j.records.now j.values.now _ c.requires s c.args.position c.WIDTH-size.result c.entry_of-entry.result c.entry_of-entry.ensures c.WIDTH-size.ensures c.if-position-entry.false in
-    get_some g.K.Key.bytes g.K.Key.WIDTH g.met.K.Key.sized g.K.DecodedKey.decoding (key_back g.K.Key.bytes g.K.DecodedKey.decoding g.K.Key.WIDTH g.met.K.Key.sized g.met.K.Key.octets g.met.K.Key.same g.met.K.DecodedKey.decoded) j.used j.directory.now j.records.now j.values.now _ c.requires s c.args.position _ _ c.decode.result (omega (arith, ap (λ (e : Section). e.rows) is, c.if-position-entry.false)) (ap (λ n. n + 28) c.WIDTH-size.ensures) t.2 c.decode.ensures.one
+    let s = c.args.place.section in
+    let is = c.entry_of-entry.ensures ∙ entry_at g.K.Key.bytes g.K.Key.WIDTH g.met.K.Key.sized j.used j.directory.now j.records.now j.values.now _ c.args.self.now.ok s in
+    let t = place g.K.Key.bytes g.K.Key.WIDTH g.met.K.Key.sized j.used j.directory.now j.records.now j.values.now _ c.args.self.now.ok s c.args.place.position c.WIDTH-size.result c.entry_of-entry.result c.entry_of-entry.ensures c.WIDTH-size.ensures c.if-place-entry.false in
+    get_some g.K.Key.bytes g.K.Key.WIDTH g.met.K.Key.sized g.K.DecodedKey.decoding (key_back g.K.Key.bytes g.K.DecodedKey.decoding g.K.Key.WIDTH g.met.K.Key.sized g.met.K.Key.octets g.met.K.Key.same g.met.K.DecodedKey.decoded) j.used j.directory.now j.records.now j.values.now _ c.args.self.now.ok s c.args.place.position _ _ c.decode.result (omega (arith, ap (λ (e : Section). e.rows) is, c.if-place-entry.false)) (ap (λ n. n + 28) c.WIDTH-size.ensures) t.2 c.decode.ensures.one
