@@ -7,6 +7,7 @@ use Rattle.journal.proofs.ReadRecord.{length_record}
 use Rattle.split.specs.declared.section.Section.{Section}
 use Rattle.split.specs.Directory.{entry}
 use Rattle.split.specs.Parts.{Part, part_of, labelled, flat, row_total, byte_total, directory_of, stored_of_rows, values_of, records_from, records_of}
+use Rattle.split.proofs.Kind.{Kind}
 
 module _ {K : Type 0} where
   pub length_stored_rows : (rows : List (Row K)) → length (stored_of_rows rows) ≡ stored_bytes rows
@@ -67,12 +68,12 @@ module _ {K : Type 0} where
   byte_total_part s [] = refl
   byte_total_part s (r ∷ rs) = add-zero (stored_bytes (r ∷ rs))
 
-module _ {K : Type 0} (bytes : K → List ℕ) (w : ℕ) (sized : (k : K) → length (bytes k) ≡ w) where
+module _ {K : Type 0} {bytes : K → List ℕ} {w : ℕ} {decoding : List ℕ → K} (key : Kind bytes w decoding) where
   pub length_records_from : (offset : ℕ) (rows : List (Row K)) → length (records_from bytes offset rows) ≡ length rows * (w + 28)
   length_records_from offset [] = omega arith
   length_records_from offset (r ∷ rs) =
       length-append (record_encoding bytes (record_of offset r)) (records_from bytes (offset + length r.stored) rs)
-      ∙ (λ i. length_record bytes w sized (record_of offset r) i + length_records_from (offset + length r.stored) rs i)
+      ∙ (λ i. length_record bytes w key.sized (record_of offset r) i + length_records_from (offset + length r.stored) rs i)
       ∙ sym (add-mul 1 (length rs) (w + 28) ∙ omega arith) ∙ ap (λ n. n * (w + 28)) (omega arith)
 
   pub length_records : (ps : List (Part K)) → length (records_of bytes ps) ≡ row_total ps * (w + 28)

@@ -1,5 +1,6 @@
 -- A directory of sections: its entries stand in rising order, each begins where the one before it ends.
 use Rattle.std.specs.Prelude.{ℕ, suc, ◌+◌, ◌-◌, ◌≤◌, cond, List, [], ◌∷◌, Some, None, Option, ◌==◌, nat_lt}
+use Rattle.std.specs.Coded.{×_prop, Unit-prop, le_prop}
 use Rattle.split.specs.declared.section.Section.{Section}
 
 -- an entry of its numbers
@@ -19,6 +20,11 @@ numbers (d ∷ ds) = d.number ∷ numbers ds
 abbrev pub Rising : ℕ → List ℕ → Type 0
 Rising low [] = Unit {0}
 Rising low (n ∷ ns) = (low ≤ n) × Rising (suc n) ns
+
+-- which has at most one proof
+pub Rising-prop : (low : ℕ) (ns : List ℕ) → IsProp (Rising low ns)
+Rising-prop low [] = Unit-prop
+Rising-prop low (n ∷ ns) = ×_prop le_prop (Rising-prop (suc n) ns)
 
 -- how many of them stand before n
 abbrev pub before : ℕ → List ℕ → ℕ

@@ -1,5 +1,5 @@
 -- What an append and a restore of a split journal need to know before they write.
-use Rattle.std.specs.Prelude.{ℕ, ◌+◌, ◌*◌, ◌/◌, List, length, take, Result}
+use Rattle.std.specs.Prelude.{◌≡◌, ℕ, ◌+◌, ◌*◌, ◌/◌, List, length, take, Result}
 use Rattle.journal.specs.declared.fault.JournalFault.{JournalFault}
 use Rattle.journal.specs.Answers.{answered}
 use Rattle.journal.specs.Rows.{append_fault, restore_fault, stored_bytes}
@@ -18,13 +18,21 @@ module _ {K : Type 0} (s : ℕ) (ps : List (Part K)) where
   abbrev pub entry_with : ℕ → ℕ → Section
   entry_with rows bytes = entry s (row_total (under s ps)) (byte_total (under s ps)) rows bytes
 
+  -- its entry, as its rows are
+  abbrev pub entry_at : Section
+  entry_at = entry_with (length (rows_at s ps)) (stored_bytes (rows_at s ps))
+
   -- where a row goes
   abbrev pub place_of : ℕ → Spot
-  place_of w = record { at = at_entry; row = row_total ps * (w + 28); byte = byte_total ps; entry = entry_with (length (rows_at s ps)) (stored_bytes (rows_at s ps)) }
+  place_of w = record { at = at_entry; row = row_total ps * (w + 28); byte = byte_total ps; entry = entry_at }
 
   -- where a restore to n rows cuts
   abbrev pub cut_of : ℕ → Cut
   cut_of n = record { at = at_entry; entry = entry_with n (stored_bytes (take n (rows_at s ps))) }
+
+-- the entry of its own number
+abbrev pub IsEntry : {K : Type 0} → List (Part K) → Section → Type 0
+IsEntry ps d = d ≡ entry_at d.number ps
 
 module _ {K : Type 0} (decoding : List ℕ → K) (w used : ℕ) (directory : List Section) (records values : List ℕ) where
   -- where a row with a value of n bytes goes, or 13, 10
