@@ -107,18 +107,22 @@ module _ {K : Type 0} {bytes : K → List ℕ} {w used : ℕ} {directory : List 
           (appended key h s row (record { next_section_fits = ns_fits; next_position_fits = np_fits; has_check = omega (arith, count); size_fits = omega (arith, count) }) highest (omega (arith, bound, count))
           within (recs_are ∙ (λ i. record_encoding bytes (record_with k ns np (told.1 i).entry.bytes (count i)))) (omega arith) vals_are (omega (arith, count)) (λ i. entry_with s ps (length (rows_at s ps) + 1) (stored_bytes (rows_at s ps) + count i)))
 
-      pub good : IsSplitGood decoding w (p.at + 1) (directory_then p) (records_then p size recs) (values_then p vals) bytes
-      good = regood key laid
+      pub record Left : Type 0 where
+        pub good : IsSplitGood decoding w (p.at + 1) (directory_then p) (records_then p size recs) (values_then p vals) bytes
+        pub answer : Ok (p.entry.rows, p.entry.bytes, len + 4) ≡ append_answer (w + 28) (parts_mean ps) (space (length enc)) s enc
+        pub after : split_means decoding w (p.at + 1) (directory_then p) (records_then p size recs) (values_then p vals) ≡ append_after (w + 28) (parts_mean ps) (space (length enc)) s k ns np enc
 
-      pub answer : Ok (p.entry.rows, p.entry.bytes, len + 4) ≡ append_answer (w + 28) (parts_mean ps) (space (length enc)) s enc
-      answer =
-          let mean = rows_mean key h s in
-          (λ i. Ok ((told.1 i).entry.rows, (told.1 i).entry.bytes, count i)) ∙ (λ i. Ok (length (sym mean i), stored_bytes (sym mean i), length (stored_of enc)))
-          ∙ ap (λ f. answered f (length ((parts_mean ps).rows s), stored_bytes ((parts_mean ps).rows s), length (stored_of enc))) (sym none)
-
-      pub after : split_means decoding w (p.at + 1) (directory_then p) (records_then p size recs) (values_then p vals) ≡ append_after (w + 28) (parts_mean ps) (space (length enc)) s k ns np enc
+      pub left : Left
       unfolding row
-      after =
-          ap parts_mean (reread key laid) ∙ ap (flat_means label unlabelled) (flat_added s 0 ps row h.proper highest)
-          ∙ flat_append label unlabelled (w + 28) s k ns np enc (flat ps) (s, row) tells.0 refl refl
-          ∙ ap (λ f. unless f (parts_mean ps) (apply (w + 28) (parts_mean ps) (append s k ns np enc))) (sym none)
+      left =
+          let mean = rows_mean key h s in
+          record {
+            good = regood key laid;
+            answer =
+                (λ i. Ok ((told.1 i).entry.rows, (told.1 i).entry.bytes, count i)) ∙ (λ i. Ok (length (sym mean i), stored_bytes (sym mean i), length (stored_of enc)))
+                ∙ ap (λ f. answered f (length ((parts_mean ps).rows s), stored_bytes ((parts_mean ps).rows s), length (stored_of enc))) (sym none);
+            after =
+                ap parts_mean (reread key laid) ∙ ap (flat_means label unlabelled) (flat_added s 0 ps row h.proper highest)
+                ∙ flat_append label unlabelled (w + 28) s k ns np enc (flat ps) (s, row) tells.0 refl refl
+                ∙ ap (λ f. unless f (parts_mean ps) (apply (w + 28) (parts_mean ps) (append s k ns np enc))) (sym none);
+          }

@@ -1,8 +1,10 @@
 -- What an append and a restore make of the sections, and that the memory then holds those.
-use Rattle.std.proofs.Common.{◌≡◌, ℕ, zero, suc, ◌+◌, ◌-◌, ◌*◌, ◌^◌, ◌<◌, ◌≤◌, Bool, cond, ◌&&◌, eqb, ltb, List, [], ◌∷◌, ◌++◌, length, take, drop, set, sym, refl, ap, ◌∙◌, subst, ⊎_elim, append_assoc, append-nil, zero-add, arith, length-append, length-set, take-append-drop, length-take}
+use Rattle.std.proofs.Common.{◌≡◌, ℕ, zero, suc, ◌+◌, ◌-◌, ◌*◌, ◌^◌, ◌<◌, ◌≤◌, cond, eqb, List, [], ◌∷◌, ◌++◌, length, take, drop, set, sym, refl, ap, ◌∙◌, subst, ⊎_elim, append_assoc, append-nil, zero-add, arith, length-append, length-set, take-append-drop, length-take}
 use borrow.Rule.Slice.PartMut.{put_mid}
-use Rattle.std.proofs.lemmas.List.{drop_at, length-take-le, take_more_set, take-take}
-use Rattle.std.proofs.lemmas.Bool.{lt-ltb, le-ltb, le-leb, lt-leb, eq-eqb, ne_eqb, and_from, and_right, cond-true, cond-false, cases_eq, cases_lt}
+use Rattle.std.proofs.lemmas.List.{map-append, drop_at, length-map, length-take-le, take_more_set, take-take}
+use Rattle.std.proofs.lemmas.Bool.{eq-eqb, ne_eqb, cond-true, cond-false, cases_eq}
+use Rattle.std.proofs.lemmas.Bool.Decides.{nat_tests}
+use Rattle.std.proofs.lemmas.Grind.{common_steps, flat_map-append}
 use Rattle.codec.proofs.Pieces.{piece}
 use Rattle.journal.specs.Answers.{record_of}
 use Rattle.journal.specs.Flat.{Ordered, cut}
@@ -14,8 +16,8 @@ use Rattle.split.specs.Directory.{before, numbers}
 use Rattle.split.specs.Plans.{at_entry, entry_with}
 use Rattle.split.specs.Parts.{Part, Proper, RowFits, RowsFit, Laid, part, part_of, labelled, flat, label, rows_at, under, over, row_total, byte_total, directory_of, records_from, records_of, stored_of_rows, values_of}
 use Rattle.split.proofs.Kind.{Kind}
-use Rattle.split.proofs.Halving.{before_within, length_numbers}
-use Rattle.split.proofs.Lengths.{length_records, length_values, records_append, records_from_append, values_append, stored_rows_append, stored_bytes_append, flat_parts, flat_part, labelled_append, directory_append}
+use Rattle.split.proofs.Halving.{before_within}
+use Rattle.split.proofs.Lengths.{length_records, length_values, records_from_append, stored_bytes_append, flat_part, directory_append}
 use Rattle.split.proofs.Around.{apart, under_directory, under_proper}
 use Rattle.split.proofs.Standing.{Fit, fit_at, records_around, records_part, values_around, values_part}
 
@@ -40,60 +42,43 @@ module _ {K : Type 0} where
 
   flat_apart : (s low : ℕ) (ps : List (Part K)) → Proper low ps → flat ps ≡ flat (under s ps) ++ (labelled s (rows_at s ps) ++ flat (over s ps))
   flat_apart s low ps h =
-      ap flat (apart s low ps h) ∙ flat_parts (under s ps) (part_of s (rows_at s ps) ++ over s ps)
-      ∙ ap (λ l. flat (under s ps) ++ l) (flat_parts (part_of s (rows_at s ps)) (over s ps) ∙ ap (λ l. l ++ flat (over s ps)) (flat_part s (rows_at s ps)))
+      ap flat (apart s low ps h) ∙ flat_map-append (λ (p : Part K). labelled p.number p.rows) (under s ps) (part_of s (rows_at s ps) ++ over s ps)
+      ∙ ap (λ l. flat (under s ps) ++ l) (flat_map-append (λ (p : Part K). labelled p.number p.rows) (part_of s (rows_at s ps)) (over s ps) ∙ ap (λ l. l ++ flat (over s ps)) (flat_part s (rows_at s ps)))
 
   -- one row more in the highest section
   pub flat_added : (s low : ℕ) (ps : List (Part K)) (r : Row K) → Proper low ps → over s ps ≡ [] → flat (under s ps ++ part_of s (rows_at s ps ++ (r ∷ []))) ≡ flat ps ++ ((s, r) ∷ [])
   flat_added s low ps r h o =
       let rows = rows_at s ps in
-      flat_parts (under s ps) (part_of s (rows ++ (r ∷ []))) ∙ ap (λ l. flat (under s ps) ++ l) (flat_part s (rows ++ (r ∷ [])) ∙ labelled_append s rows (r ∷ []))
+      flat_map-append (λ (p : Part K). labelled p.number p.rows) (under s ps) (part_of s (rows ++ (r ∷ []))) ∙ ap (λ l. flat (under s ps) ++ l) (flat_part s (rows ++ (r ∷ [])) ∙ map-append (λ (r : Row K). (s, r)) rows (r ∷ []))
       ∙ sym (append_assoc (flat (under s ps)) (labelled s rows) ((s, r) ∷ []))
       ∙ sym (ap (λ l. l ++ ((s, r) ∷ [])) (flat_apart s low ps h ∙ ap (λ l. flat (under s ps) ++ l) (ap (λ qs. labelled s rows ++ flat qs) o ∙ append-nil (labelled s rows))))
 
   cut_lower : (s n m : ℕ) (rows : List (Row K)) (xs : List (ℕ × Row K)) → m < s → cut label s n (labelled m rows ++ xs) ≡ labelled m rows ++ cut label s n xs
   cut_lower s n m [] xs l = refl
-  cut_lower s n m (r ∷ rs) xs l = cond-true (ltb m s) _ _ (lt-ltb m s l) ∙ ap (λ k. (m, r) ∷ k) (cut_lower s n m rs xs l)
+  cut_lower s n m (r ∷ rs) xs l = grind (arith, nat_tests, cut_lower s n m rs xs l)
 
   cut_under : (s n : ℕ) (ps : List (Part K)) (xs : List (ℕ × Row K)) → cut label s n (flat (under s ps) ++ xs) ≡ flat (under s ps) ++ cut label s n xs
   cut_under s n [] xs = refl
-  cut_under s n (p ∷ ps) xs =
-      let F : Bool → Type 0 = λ b. cut label s n (flat (cond b (p ∷ under s ps) []) ++ xs) ≡ flat (cond b (p ∷ under s ps) []) ++ cut label s n xs in
-      ⊎_elim
-      (λ l.
-      let rest = cut_under s n ps xs in
-      let own = labelled p.number p.rows in
-      subst F (sym (lt-ltb p.number s l))
-      (ap (cut label s n) (append_assoc own (flat (under s ps)) xs) ∙ cut_lower s n p.number p.rows (flat (under s ps) ++ xs) l ∙ ap (λ k. own ++ k) rest ∙ sym (append_assoc own (flat (under s ps)) (cut label s n xs))))
-      (λ g. subst F (sym (le-ltb p.number s g)) refl)
-      (cases_lt p.number s)
+  cut_under s n (p ∷ ps) xs = grind (arith, nat_tests, common_steps, cut_lower s n p.number p.rows (flat (under s ps) ++ xs), cut_under s n ps xs)
 
   cut_own : (s n : ℕ) (rows : List (Row K)) (xs : List (ℕ × Row K)) → n ≤ length rows → cut label s 0 xs ≡ [] → cut label s n (labelled s rows ++ xs) ≡ labelled s (take n rows)
   cut_own s zero [] xs l e = e
   cut_own s (suc n) [] xs l e = absurd (omega arith)
-  cut_own s zero (r ∷ rs) xs l e = cond-false (ltb s s) _ _ (le-ltb s s (omega arith)) ∙ cond-false (eqb s s && ltb 0 0) _ _ (and_right (eqb s s) (ltb 0 0) refl)
-  cut_own s (suc n) (r ∷ rs) xs l e =
-      let one : suc n - 1 ≡ n = omega arith in
-      cond-false (ltb s s) _ _ (le-ltb s s (omega arith)) ∙ cond-true (eqb s s && ltb 0 (suc n)) _ _ (and_from (eqb s s) (ltb 0 (suc n)) (eq-eqb s s refl) (lt-ltb 0 (suc n) (omega arith)))
-      ∙ ap (λ k. (s, r) ∷ k) (ap (λ m. cut label s m (labelled s rs ++ xs)) one ∙ cut_own s n rs xs (omega arith) e)
+  cut_own s zero (r ∷ rs) xs l e = grind (arith, nat_tests)
+  cut_own s (suc n) (r ∷ rs) xs l e = let one : suc n - 1 ≡ n = omega arith in grind (arith, nat_tests, cut_own s n rs xs (omega arith) e)
 
   cut_none : (s low : ℕ) (xs : List (ℕ × Row K)) → Ordered label low xs → s ≤ low → cut label s 0 xs ≡ []
   cut_none s low [] o l = refl
-  cut_none s low (x ∷ xs) o l = cond-false (ltb x.0 s) _ _ (le-ltb x.0 s (omega (arith, o.0))) ∙ cond-false (eqb x.0 s && ltb 0 0) _ _ (and_right (eqb x.0 s) (ltb 0 0) refl)
+  cut_none s low (x ∷ xs) o l = grind (arith, nat_tests, o.0)
 
   over_proper : (s low : ℕ) (ps : List (Part K)) → Proper low ps → Proper s (over s ps)
   over_proper s low [] h = tt
-  over_proper s low (p ∷ ps) h =
-      let F : Bool → Type 0 = λ b. Proper s (cond b (over s ps) (p ∷ ps)) in
-      ⊎_elim
-      (λ l. subst F (sym (lt-leb p.number s l)) (omega arith, h.1, h.2))
-      (λ g. subst F (sym (le-leb p.number s g)) (over_proper s (suc p.number) ps h.2))
-      (cases_lt s p.number)
+  over_proper s low (p ∷ ps) h = grind (arith, nat_tests, over_proper s (suc p.number) ps h.2, h.1, h.2)
 
   -- cut back to the first n rows of a section
   pub flat_cut : (s low n : ℕ) (ps : List (Part K)) → Proper low ps → n ≤ length (rows_at s ps) → flat (under s ps ++ part_of s (take n (rows_at s ps))) ≡ cut label s n (flat ps)
   flat_cut s low n ps h l =
-      flat_parts (under s ps) (part_of s (take n (rows_at s ps))) ∙ ap (λ k. flat (under s ps) ++ k) (flat_part s (take n (rows_at s ps)))
+      flat_map-append (λ (p : Part K). labelled p.number p.rows) (under s ps) (part_of s (take n (rows_at s ps))) ∙ ap (λ k. flat (under s ps) ++ k) (flat_part s (take n (rows_at s ps)))
       ∙ sym (ap (cut label s n) (flat_apart s low ps h) ∙ cut_under s n ps (labelled s (rows_at s ps) ++ flat (over s ps))
       ∙ ap (λ k. flat (under s ps) ++ k) (cut_own s n (rows_at s ps) (flat (over s ps)) l (cut_none s s (flat (over s ps)) (ordered_flat s (over s ps) (over_proper s low ps h)) (omega arith))))
 
@@ -108,16 +93,7 @@ with_rows s ps rows = under s ps ++ part_of s rows
 -- a section with rows has its entry
 before_entry : {K : Type 0} (s row byte : ℕ) (ps : List (Part K)) → 0 < length (rows_at s ps) → before s (numbers (directory_of row byte ps)) < length (directory_of row byte ps)
 before_entry s row byte [] l = absurd (omega arith)
-before_entry s row byte (p ∷ ps) l =
-    let next = directory_of (row + length p.rows) (byte + stored_bytes p.rows) ps in
-    ⊎_elim
-    (λ q.
-    let none : rows_at s (p ∷ ps) ≡ rows_at s ps = cond-false (eqb p.number s) _ _ (ne_eqb p.number s (λ e. omega arith)) in
-    let rest = before_entry s (row + length p.rows) (byte + stored_bytes p.rows) ps (omega (arith, ap length none)) in
-    let b : cond (ltb p.number s) (suc (before s (numbers next))) 0 ≡ suc (before s (numbers next)) = cond-true (ltb p.number s) _ _ (lt-ltb p.number s q) in
-    omega (arith, b))
-    (λ q. let b : cond (ltb p.number s) (suc (before s (numbers next))) 0 ≡ 0 = cond-false (ltb p.number s) _ _ (le-ltb p.number s q) in omega (arith, b))
-    (cases_lt p.number s)
+before_entry s row byte (p ∷ ps) l = grind (arith, nat_tests, before_entry s (row + length p.rows) (byte + stored_bytes p.rows) ps)
 
 module _ {K : Type 0} {bytes : K → List ℕ} {w used : ℕ} {directory : List Section} {records values : List ℕ} {ps : List (Part K)} {decoding : List ℕ → K} (key : Kind bytes w decoding) (h : Laid bytes w used directory records values ps) where
   -- ---- what is written behind the sections leaves them
@@ -157,8 +133,8 @@ module _ {K : Type 0} {bytes : K → List ℕ} {w used : ℕ} {directory : List 
     unfolding entries
     relaid rows fit bound x y within is recs vals =
         let r : records_of bytes (with_rows s ps rows) ≡ records_of bytes (under s ps) ++ records_from bytes 0 rows =
-        records_append key (under s ps) (part_of s rows) ∙ ap (λ l. records_of bytes (under s ps) ++ l) (records_part key s rows) in
-        let v : values_of (with_rows s ps rows) ≡ values_of (under s ps) ++ stored_of_rows rows = values_append (under s ps) (part_of s rows) ∙ ap (λ l. values_of (under s ps) ++ l) (values_part s rows) in
+        flat_map-append (λ (p : Part K). records_from bytes 0 p.rows) (under s ps) (part_of s rows) ∙ ap (λ l. records_of bytes (under s ps) ++ l) (records_part key s rows) in
+        let v : values_of (with_rows s ps rows) ≡ values_of (under s ps) ++ stored_of_rows rows = flat_map-append (λ (p : Part K). stored_of_rows p.rows) (under s ps) (part_of s rows) ∙ ap (λ l. values_of (under s ps) ++ l) (values_part s rows) in
         record {
           within = within;
           entries = is ∙ sym (directory_append 0 0 (under s ps) (part_of s rows) ∙ (λ i. directory_of 0 0 (under s ps) ++ directory_of (zero-add (row_total (under s ps)) i) (zero-add (byte_total (under s ps)) i) (part_of s rows)));
@@ -172,7 +148,7 @@ module _ {K : Type 0} {bytes : K → List ℕ} {w used : ℕ} {directory : List 
     long = ap length (sym h.entries) ∙ length-take-le used directory h.within
 
     pub standing : at_entry s ps ≤ used
-    standing = omega (arith, before_within s (numbers (directory_of 0 0 ps)), length_numbers (directory_of 0 0 ps), long)
+    standing = omega (arith, before_within s (numbers (directory_of 0 0 ps)), length-map (directory_of 0 0 ps) (λ (d : Section). d.number), long)
 
     pub inside : 0 < length (rows_at s ps) → at_entry s ps < used
     inside some = omega (arith, before_entry s 0 0 ps some, long)
@@ -217,7 +193,7 @@ module _ {K : Type 0} {bytes : K → List ℕ} {w used : ℕ} {directory : List 
           let u : List ℕ = values_of (under s ps) in
           let own : List ℕ = stored_of_rows (rows_at s ps) in
           let all : values_of ps ≡ u ++ own = values_around s 0 ps h.proper ∙ ap (λ l. u ++ l) (ap (λ qs. own ++ values_of qs) none ∙ append-nil own) in
-          let grown : stored_of_rows (rows_at s ps ++ (r ∷ [])) ≡ own ++ r.stored = stored_rows_append (rows_at s ps) (r ∷ []) ∙ ap (λ l. own ++ l) (append-nil r.stored) in
+          let grown : stored_of_rows (rows_at s ps ++ (r ∷ [])) ≡ own ++ r.stored = flat_map-append (λ (r : Row K). r.stored) (rows_at s ps) (r ∷ []) ∙ ap (λ l. own ++ l) (append-nil r.stored) in
           piece (byte_total ps) k (byte_total ps + length r.stored) (values_of ps) values values vals r.stored (length_values ps) (omega arith) (omega arith) h.kept is
           ∙ ap (λ l. l ++ drop (byte_total ps + length r.stored) values) (ap (λ l. l ++ r.stored) all ∙ append_assoc u own r.stored ∙ ap (λ l. u ++ l) (sym grown))
 
@@ -258,7 +234,7 @@ module _ {K : Type 0} {bytes : K → List ℕ} {w used : ℕ} {directory : List 
           let v : List ℕ = values_of (under s ps) in
           let recs = h.recorded ∙ ap (λ l. l ++ x) (records_around key s 0 ps h.proper ∙ ap (λ l. u ++ (l ++ records_of bytes (over s ps))) (ap (records_from bytes 0) apart_at ∙ records_from_append key 0 a b))
           ∙ regroup u (records_from bytes 0 a) (records_from bytes (0 + stored_bytes a) b) (records_of bytes (over s ps)) x in
-          let vals = h.kept ∙ ap (λ l. l ++ y) (values_around s 0 ps h.proper ∙ ap (λ l. v ++ (l ++ values_of (over s ps))) (ap stored_of_rows apart_at ∙ stored_rows_append a b))
+          let vals = h.kept ∙ ap (λ l. l ++ y) (values_around s 0 ps h.proper ∙ ap (λ l. v ++ (l ++ values_of (over s ps))) (ap stored_of_rows apart_at ∙ flat_map-append (λ (r : Row K). r.stored) a b))
           ∙ regroup v (stored_of_rows a) (stored_of_rows b) (values_of (over s ps)) y in
           relaid a (front_fit n (rows_at s ps) fit.each) (omega (arith, front_less, fit.bounded)) _ _ within is recs vals
 

@@ -21,15 +21,15 @@ use Rattle.split.proofs.Standing.{Fit, record_at, row_past, row_there, starts_at
 
 some_there : {A : Type 0} (o : Option A) → is_some o ≡ true → (x : A) × (o ≡ Some x)
 some_there (Some x) e = (x, refl)
-some_there None e = let z : ◌≡◌ {A = ℕ} 0 1 = cc in absurd (omega arith)
+some_there None e = absurd (cc)
 
 none_there : {A : Type 0} (o : Option A) → is_some o ≡ false → o ≡ None
-none_there (Some x) e = let z : ◌≡◌ {A = ℕ} 0 1 = cc in absurd (omega arith)
+none_there (Some x) e = absurd (cc)
 none_there None e = refl
 
 module _ {K : Type 0} where
   fit_row : (rows : List (Row K)) (p : ℕ) (r : Row K) → RowsFit rows → row_at rows p ≡ Some r → RowFits r × (stored_bytes (take p rows) + length r.stored ≤ stored_bytes rows)
-  fit_row [] p r f e = let z : ◌≡◌ {A = ℕ} 0 1 = cc in absurd (omega arith)
+  fit_row [] p r f e = absurd (cc)
   fit_row (q ∷ rs) zero r f e = let same : q ≡ r = cc in (subst RowFits same f.0, omega (arith, ap (λ (x : Row K). length x.stored) same))
   fit_row (q ∷ rs) (suc p) r f e = let rest = fit_row rs p r f.1 e in (rest.0, omega (arith, rest.1))
 
@@ -79,11 +79,11 @@ module _ {K : Type 0} {bytes : K → List ℕ} {w used : ℕ} {directory : List 
   all : n ≡ length ((parts_mean ps).rows s)
   all = count ∙ (known_own key h d entry).rows ∙ ap (λ n. length ((parts_mean ps).rows n)) number
 
-  pub got : {p : ℕ} {q : Record K} → p < d.rows → ((r : Record K) → RecordFits r → record_encoding bytes r ≡ take (width + 28) (drop (p * (width + 28)) recs) → q ≡ r) → Ok q ≡ get_answer (parts_mean ps) s p
-  got {p} {q} l one = row_of key (fit key h s) recs width mean wide s p q (omega (arith, all, count)) one
+  pub got : {p : ℕ} {q : Record K} {part : List ℕ} → p < d.rows → part ≡ take (width + 28) (drop (p * (width + 28)) recs) → ((r : Record K) → RecordFits r → record_encoding bytes r ≡ part → q ≡ r) → Ok q ≡ get_answer (parts_mean ps) s p
+  got {p} {q} l is one = row_of key (fit key h s) recs width mean wide s p q (omega (arith, all, count)) (λ r f e. one r f (e ∙ sym is))
 
-  pub ends_at : {p : ℕ} → p < d.rows → get_or (offsets width n recs) p 0 ≡ stored_bytes (take p (rows_at s ps))
-  ends_at {p} l = offset_is key (fit key h s) recs width mean wide n all p (omega (arith, all, count)) ∙ ap (λ (rows : List (Row K)). stored_bytes (take p rows)) (rows_mean key h s)
+  pub ends_at : {p q : ℕ} → p < d.rows → q ≡ get_or (offsets width n recs) p 0 → q ≡ stored_bytes (take p (rows_at s ps))
+  ends_at {p} l is = is ∙ offset_is key (fit key h s) recs width mean wide n all p (omega (arith, all, count)) ∙ ap (λ (rows : List (Row K)). stored_bytes (take p rows)) (rows_mean key h s)
 
   module _ (offset size : ℕ) {answer : Bool} (is : answer ≡ has_place offset size (offsets width n recs) (sizes width n recs)) where
     there : answer ≡ is_some (stored_at 0 ((parts_mean ps).rows s) offset size)

@@ -1,7 +1,9 @@
 -- The rows of a section, by the places of their values.
-use Rattle.std.proofs.Common.{◌≡◌, ℕ, suc, ◌+◌, ◌-◌, ◌^◌, ◌<◌, ◌≤◌, Bool, true, false, cond, ◌&&◌, eqb, ltb, List, [], ◌∷◌, ◌++◌, length, take, drop, is_some, Some, None, Option, sym, refl, ap, ◌∙◌, ⊎_elim, append_assoc, arith}
+use Rattle.std.proofs.Common.{◌≡◌, ℕ, suc, ◌+◌, ◌-◌, ◌^◌, ◌<◌, ◌≤◌, ◌&&◌, eqb, List, [], ◌∷◌, ◌++◌, length, take, drop, is_some, Some, None, sym, refl, ap, ◌∙◌, ⊎_elim, append_assoc, arith}
 use Rattle.std.proofs.lemmas.List.{drop-drop, drop_at, take_at}
-use Rattle.std.proofs.lemmas.Bool.{lt-ltb, le-ltb, eq-eqb, ne_eqb, and_left, eqb-true, cond-true, cond-false, cases_order, cases_Bool}
+use Rattle.std.proofs.lemmas.Bool.{and_parts, eqb-true, cond-true, cond-false, cases_Bool}
+use Rattle.std.proofs.lemmas.Bool.Decides.{nat_tests}
+use Rattle.std.proofs.lemmas.Grind.{common_steps}
 use Rattle.journal.specs.Answers.{record_of}
 use Rattle.journal.specs.Layouts.{record_encoding, record_read}
 use Rattle.journal.specs.Rows.{Row, stored_at, stored_bytes}
@@ -28,29 +30,11 @@ module _ {K : Type 0} where
 
   none_later : (from offset size : ℕ) (rows : List (Row K)) → offset < from → stored_at from rows offset size ≡ None
   none_later from offset size [] l = refl
-  none_later from offset size (r ∷ rs) l =
-      cond-false (eqb from offset && eqb (length r.stored) size) _ _ (and_left _ _ (ne_eqb from offset (λ e. omega arith))) ∙ none_later (from + length r.stored) offset size rs (omega arith)
+  none_later from offset size (r ∷ rs) l = grind (arith, nat_tests, none_later (from + length r.stored) offset size rs)
 
   pub held : (from offset size : ℕ) (rows : List (Row K)) → RowsFit rows → has_place offset size (starts from rows) (lengths rows) ≡ is_some (stored_at from rows offset size)
   held from offset size [] f = refl
-  held from offset size (r ∷ rs) f =
-      let k = length r.stored in
-      let next : Option (List ℕ) = stored_at (from + k) rs offset size in
-      ⊎_elim
-      (λ e.
-      let none : next ≡ None = none_later (from + k) offset size rs (omega (arith, f.0.has_check)) in
-      cond-false (ltb from offset) _ _ (le-ltb from offset (omega arith))
-      ∙ ap (λ b. b && eqb k size) (eq-eqb from offset e)
-      ∙ elim (eqb k size) as (λ b. b ≡ is_some (cond b (Some r.stored) None)) [ true ↦ refl | false ↦ refl ]
-      ∙ sym (ap is_some ((λ i. cond (eq-eqb from offset e i && eqb k size) (Some r.stored) (none i)))))
-      (⊎_elim
-      (λ l.
-      cond-true (ltb from offset) _ _ (lt-ltb from offset l) ∙ held (from + k) offset size rs f.1
-      ∙ sym (ap is_some (cond-false (eqb from offset && eqb k size) (Some r.stored) next (and_left _ _ (ne_eqb from offset (λ e. omega arith))))))
-      (λ g.
-      cond-false (ltb from offset) _ _ (le-ltb from offset (omega arith)) ∙ and_left _ _ (ne_eqb from offset (λ e. omega arith))
-      ∙ sym (ap is_some (none_later from offset size (r ∷ rs) g))))
-      (cases_order from offset)
+  held from offset size (r ∷ rs) f = grind (arith, nat_tests, common_steps, held (from + length r.stored) offset size rs f.1, none_later (from + length r.stored) offset size rs, f.0.has_check)
 
   -- where it lies among the stored values
   pub record Lies (from offset size : ℕ) (rows : List (Row K)) (x y : List ℕ) : Type 0 where
@@ -59,23 +43,21 @@ module _ {K : Type 0} where
     pub slice : take size (drop (offset - from) (stored_of_rows rows ++ y)) ≡ x
 
   pub lies : (from offset size : ℕ) (rows : List (Row K)) (x y : List ℕ) → stored_at from rows offset size ≡ Some x → Lies from offset size rows x y
-  lies from offset size [] x y e = let z : ◌≡◌ {A = ℕ} 0 1 = cc in absurd (omega arith)
+  lies from offset size [] x y e = absurd (cc)
   lies from offset size (r ∷ rs) x y e =
       let k = length r.stored in
       let values : List ℕ = stored_of_rows rs ++ y in
       let v : (r.stored ++ stored_of_rows rs) ++ y ≡ r.stored ++ values = append_assoc r.stored (stored_of_rows rs) y in
       ⊎_elim
       (λ t.
-      let p = and_both (eqb from offset) (eqb k size) t in
-      let here : from ≡ offset = eqb-true from offset p.0 in
-      let same : k ≡ size = eqb-true k size p.1 in
+      let p = and_parts (eqb from offset) (eqb k size) t in
       let is : Some r.stored ≡ Some x = sym (cond-true (eqb from offset && eqb k size) _ _ t) ∙ e in
       let stored : r.stored ≡ x = cc in
-      let zero_off : offset - from ≡ 0 = omega arith in
+      let none : offset - from ≡ 0 = omega (arith, eqb-true from offset p.0) in
       record {
-        behind = omega arith;
-        within = omega arith;
-        slice = (λ i. take size (drop (zero_off i) (v i))) ∙ take_at r.stored values size same ∙ stored;
+        behind = omega (arith, eqb-true from offset p.0);
+        within = omega (arith, none, eqb-true k size p.1);
+        slice = (λ i. take size (drop (none i) (v i))) ∙ take_at r.stored values size (eqb-true k size p.1) ∙ stored;
       })
       (λ f.
       let rest = lies (from + k) offset size rs x y (sym (cond-false (eqb from offset && eqb k size) _ _ f) ∙ e) in
@@ -86,10 +68,6 @@ module _ {K : Type 0} where
         slice = (λ i. take size (drop (off i) (v i))) ∙ ap (take size) (sym (drop-drop (offset - (from + k)) k (r.stored ++ values)) ∙ ap (drop (offset - (from + k))) (drop_at r.stored values k refl)) ∙ rest.slice;
       })
       (cases_Bool (eqb from offset && eqb k size))
-    where
-      and_both : (p q : Bool) → (p && q) ≡ true → (p ≡ true) × (q ≡ true)
-      and_both true q t = (refl, t)
-      and_both false q t = let z : ◌≡◌ {A = ℕ} 0 1 = cc in absurd (omega arith)
 
 module _ {K : Type 0} {bytes : K → List ℕ} {w : ℕ} {decoding : List ℕ → K} (key : Kind bytes w decoding) where
   -- what the records of rows say

@@ -1,5 +1,5 @@
 -- A directory of sections: its entries stand in rising order, each begins where the one before it ends.
-use Rattle.std.specs.Prelude.{ℕ, suc, ◌+◌, ◌-◌, ◌≤◌, cond, List, [], ◌∷◌, Some, None, Option, ◌==◌, nat_lt}
+use Rattle.std.specs.Prelude.{ℕ, suc, ◌+◌, ◌-◌, ◌≤◌, cond, List, [], ◌∷◌, map, Some, None, Option, ◌==◌, nat_lt}
 use Rattle.std.specs.Coded.{×_prop, Unit-prop, le_prop}
 use Rattle.split.specs.declared.section.Section.{Section}
 
@@ -13,8 +13,7 @@ nothing = entry 0 0 0 0 0
 
 -- the numbers of the entries
 abbrev pub numbers : List Section → List ℕ
-numbers [] = []
-numbers (d ∷ ds) = d.number ∷ numbers ds
+numbers ds = map (λ d. d.number) ds
 
 -- numbers rise strictly, from `low` on
 abbrev pub Rising : ℕ → List ℕ → Type 0

@@ -1,4 +1,6 @@
 // Finding a section in a directory.
+#![tactic(auto, using(crate::proofs::Halving::directory))]
+
 ghost use Rattle.std.specs.Prelude.{◌≡◌, suc, ◌^◌, ◌<◌, nat_lt};
 ghost use Rattle.split.specs.Directory.{Rising, Rising-prop, end_byte, end_row, entry_of, highest_of, numbers, top};
 
@@ -14,7 +16,6 @@ pub struct Directory<'a> {
     ghost byte: { end_byte 0 sections.now < 2 ^ 64 },
 }
 
-#[tactic(auto, using(crate::proofs::Halving::length_numbers, crate::proofs::Halving::get_or_numbers))]
 impl<'a> Sorted for Directory<'a> {
     ghost numbers = { λ d. numbers d.sections.now };
 
@@ -31,7 +32,6 @@ impl<'a> Sorted for Directory<'a> {
 
 impl<'a> Directory<'a> {
     // The row and the byte behind the last entry's.
-    #[tactic(auto, using(crate::proofs::Halving::last_is))]
     pub fn end(&self) -> (u64, u64)
         ensures row { result.0 ≡ end_row 0 self.now.sections.now }
         ensures byte { result.1 ≡ end_byte 0 self.now.sections.now }

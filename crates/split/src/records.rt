@@ -1,4 +1,6 @@
 // The records of a section.
+#![tactic(auto, using(crate::proofs::Found::places))]
+
 ghost use Rattle.std.specs.Prelude.{◌≡◌, ◌+◌, ◌*◌, ◌<◌, ◌≤◌, length, get_or, take, drop};
 ghost use Rattle.split.specs.Directory.{Rising, Rising-prop};
 ghost use Rattle.split.specs.Places.{has_place, offsets, sizes};
@@ -17,7 +19,6 @@ pub struct Records<'a> {
     ghost rising: { Rising 0 (offsets width rows bytes.now) } by { Rising-prop 0 (offsets width rows bytes.now) },
 }
 
-#[tactic(auto, using(crate::proofs::Found::length_each))]
 impl<'a> Sorted for Records<'a> {
     ghost numbers = { λ r. offsets r.width r.rows r.bytes.now };
 
@@ -62,7 +63,6 @@ impl<'a> Records<'a> {
     }
 
     // Has a row its value at this offset, of this size?
-    #[tactic(auto, using(crate::proofs::Found::has_at, crate::proofs::Found::has_none, crate::proofs::Found::length_each))]
     pub fn has_place(&self, offset: u64, size: u32) -> bool
         ensures { result ≡ has_place offset size (offsets self.now.width self.now.rows self.now.bytes.now) (sizes self.now.width self.now.rows self.now.bytes.now) }
     {

@@ -1,4 +1,4 @@
-use Rattle.std.proofs.Common.{sym, ◌∙◌, arith}
+use Rattle.std.proofs.Common.{arith}
 use Rattle.split.proofs.Kind.{kind}
 use Rattle.split.proofs.Looks.{got, no_row}
 use Rattle.split.proofs.store.SplitJournalJournal.get.Goals as goal
@@ -9,5 +9,4 @@ returns-then-place-entry g c = no_row _ c.args.place.section c.args.place.positi
 pub returns : goal.returns
 returns g c =
     let key = kind g.met.K.Key.sized g.met.K.Key.octets g.met.K.Key.same g.met.K.DecodedKey.decoded in
-    got key c.args.self.now.ok c.entry-entry.ensures.own c.entry-entry.ensures.number c.records.ensures.bytes c.records.ensures.width c.records.ensures.rows c.if-place-entry.false
-    (λ r f e. c.decode.ensures.one r f (e ∙ sym c.at.ensures))
+    got key c.args.self.now.ok c.entry-entry.ensures.own c.entry-entry.ensures.number c.records.ensures.bytes c.records.ensures.width c.records.ensures.rows c.if-place-entry.false c.at.ensures c.decode.ensures.one
