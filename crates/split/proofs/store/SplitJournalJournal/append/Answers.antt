@@ -13,6 +13,9 @@ invariant_of-self g c = record { ok = good_recorded (key g) c.args.self.now.ok c
 pub invariant_of-self-2 : goal.invariant_of-self-2
 invariant_of-self-2 g c = record { ok = good_kept (key g) c.args.self.now.ok c.args.section c.encode_size-len.result c.in_ok-at.ensures _ _ (ap (λ n. n + 28) c.WIDTH-size.ensures) (omega arith) (omega arith) }
 
+pub overflow_cast-result : goal.overflow_cast-result
+overflow_cast-result g c = omega (arith, c.encode_size-len.ensures, g.met.V.Value.within c.args.value.now, g.met.V.Value.high)
+
 pub overflow_add-self : goal.overflow_add-self
 overflow_add-self g c = omega (arith, placed (key g) c.args.self.now.ok c.args.section c.encode_size-len.result c.in_ok-at.ensures)
 
