@@ -3,3 +3,4 @@ pub mod Directory
 pub mod Places
 pub mod Plans
 pub mod Single
+pub mod Whole

@@ -35,8 +35,8 @@ module _ {K : Type 0} where
   Proper-prop low [] a b = Unit-prop a b
   Proper-prop low (p ∷ ps) a b = λ i. (le_prop a.0 b.0 i, PartFits-prop p a.1 b.1 i, Proper-prop (suc p.number) ps a.2 b.2 i)
 
-  pub Laid-prop : (bytes : K → List ℕ) (w used : ℕ) (directory : List Section) (records values : List ℕ) (ps : List (Part K)) → IsProp (Laid bytes w used directory records values ps)
-  Laid-prop bytes w used directory records values ps a b = λ i. record {
+  pub Laid-prop : {bytes : K → List ℕ} {w used : ℕ} {directory : List Section} {records values : List ℕ} {ps : List (Part K)} → IsProp (Laid bytes w used directory records values ps)
+  Laid-prop {ps = ps} a b = λ i. record {
     within = le_prop a.within b.within i;
     entries = Coded-set (coded_list section_code) _ _ a.entries b.entries i;
     recorded = Coded-set (coded_list coded_ℕ) _ _ a.recorded b.recorded i;

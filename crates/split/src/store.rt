@@ -2,8 +2,7 @@
 ghost use Rattle.std.specs.Prelude.{◌≡◌, ◌+◌, ◌*◌, ◌≤◌, ◌&&◌, [], ◌∷◌, length, take};
 ghost use Rattle.journal.specs.Rows.{in_bounds, stored_bytes, value_end};
 ghost use Rattle.split.specs.Directory.{top};
-ghost use Rattle.split.specs.Parts.{IsSplitGood, byte_total, directory_of, records_from, row_total, rows_at, split_means, split_parts, split_space};
-ghost use Rattle.split.specs.Plans.{IsEntry, cut_answer, place_answer};
+ghost use Rattle.split.specs.Parts.{IsSplitGood, byte_total, directory_of, records_from, row_total, rows_at};
 ghost use Rattle.split.specs.Single.{Laid-prop};
 
 use crate::directory::Directory;
@@ -27,10 +26,13 @@ pub struct SplitJournal<'a, K: DecodedKey> {
     used: usize,
     kind: PhantomData<K>,
     // The memory holds sections in good order.
-    ghost ok: { IsSplitGood K.DecodedKey.decoding K.Key.WIDTH used directory.now records.now values.now K.Key.bytes } by { Laid-prop K.Key.bytes K.Key.WIDTH used directory.now records.now values.now (split_parts K.DecodedKey.decoding K.Key.WIDTH used directory.now records.now values.now) },
+    ghost ok: { IsSplitGood K.DecodedKey.decoding K.Key.WIDTH used directory.now records.now values.now K.Key.bytes } by { Laid-prop },
 }
 
 impl<'a, K: DecodedKey> SplitJournal<'a, K> {
+    ghost use Rattle.split.specs.Plans.{IsEntry, cut_answer, place_answer};
+    ghost use Rattle.split.specs.Whole.{meaning, parts, space};
+
     // An empty journal over this memory.
     pub fn new(
         records: &'a mut [u8],
@@ -56,8 +58,8 @@ impl<'a, K: DecodedKey> SplitJournal<'a, K> {
 
     // The entries in use.
     fn sections(&self) -> Directory<'_>
-        ensures entries { result.sections.now ≡ directory_of 0 0 (split_parts K.DecodedKey.decoding K.Key.WIDTH self.now.used self.now.directory.now self.now.records.now self.now.values.now) }
-        ensures top { top 0 result.sections.now ≡ (split_means K.DecodedKey.decoding K.Key.WIDTH self.now.used self.now.directory.now self.now.records.now self.now.values.now).sections }
+        ensures entries { result.sections.now ≡ directory_of 0 0 (parts self.now) }
+        ensures top { top 0 result.sections.now ≡ (meaning self.now).sections }
     {
         Directory {
             sections: &self.directory[..self.used],
@@ -67,9 +69,9 @@ impl<'a, K: DecodedKey> SplitJournal<'a, K> {
     // A section's entry, and what stands in the memory for it.
     fn entry(&self, section: u64) -> Section
         ensures number { result.number ≡ section }
-        ensures own { IsEntry (split_parts K.DecodedKey.decoding K.Key.WIDTH self.now.used self.now.directory.now self.now.records.now self.now.values.now) result }
-        ensures rows { result.rows ≡ length ((split_means K.DecodedKey.decoding K.Key.WIDTH self.now.used self.now.directory.now self.now.records.now self.now.values.now).rows section) }
-        ensures bytes { result.bytes ≡ value_end (split_means K.DecodedKey.decoding K.Key.WIDTH self.now.used self.now.directory.now self.now.records.now self.now.values.now) section }
+        ensures own { IsEntry (parts self.now) result }
+        ensures rows { result.rows ≡ length ((meaning self.now).rows section) }
+        ensures bytes { result.bytes ≡ value_end (meaning self.now) section }
         ensures records { result.first_row * (K.Key.WIDTH + 28) + result.rows * (K.Key.WIDTH + 28) ≤ length self.now.records.now }
         ensures values { result.first_byte + result.bytes ≤ length self.now.values.now }
     {
@@ -79,10 +81,10 @@ impl<'a, K: DecodedKey> SplitJournal<'a, K> {
     // The records of an entry.
     fn records(&self, entry: Section) -> Records<'_>
         requires within { entry.first_row * (K.Key.WIDTH + 28) + entry.rows * (K.Key.WIDTH + 28) ≤ length self.now.records.now }
-        requires own { IsEntry (split_parts K.DecodedKey.decoding K.Key.WIDTH self.now.used self.now.directory.now self.now.records.now self.now.values.now) entry }
+        requires own { IsEntry (parts self.now) entry }
         ensures width { result.width ≡ K.Key.WIDTH }
         ensures rows { result.rows ≡ entry.rows }
-        ensures bytes { result.bytes.now ≡ records_from K.Key.bytes 0 ((split_means K.DecodedKey.decoding K.Key.WIDTH self.now.used self.now.directory.now self.now.records.now self.now.values.now).rows entry.number) }
+        ensures bytes { result.bytes.now ≡ records_from K.Key.bytes 0 ((meaning self.now).rows entry.number) }
     {
         let width = K::WIDTH;
         let rows = entry.rows as usize;
@@ -96,8 +98,8 @@ impl<'a, K: DecodedKey> SplitJournal<'a, K> {
 
     // Where the next record and the next stored value go.
     fn end(&self) -> (usize, usize)
-        ensures row { result.0 ≡ row_total (split_parts K.DecodedKey.decoding K.Key.WIDTH self.now.used self.now.directory.now self.now.records.now self.now.values.now) * (K.Key.WIDTH + 28) }
-        ensures byte { result.1 ≡ byte_total (split_parts K.DecodedKey.decoding K.Key.WIDTH self.now.used self.now.directory.now self.now.records.now self.now.values.now) }
+        ensures row { result.0 ≡ row_total (parts self.now) * (K.Key.WIDTH + 28) }
+        ensures byte { result.1 ≡ byte_total (parts self.now) }
         ensures within { (result.0 ≤ length self.now.records.now) × (result.1 ≤ length self.now.values.now) }
     {
         let (rows, bytes) = self.sections().end();
@@ -106,9 +108,9 @@ impl<'a, K: DecodedKey> SplitJournal<'a, K> {
 
     // Does a row with a value of so many bytes fit in the section of an entry?
     fn has_room(&self, entry: Section, len: usize) -> bool
-        requires own { IsEntry (split_parts K.DecodedKey.decoding K.Key.WIDTH self.now.used self.now.directory.now self.now.records.now self.now.values.now) entry }
+        requires own { IsEntry (parts self.now) entry }
         requires short { len ≤ 4096 }
-        ensures { result ≡ (split_space K.DecodedKey.decoding K.Key.WIDTH self.now.used self.now.directory.now self.now.records.now self.now.values.now entry.number len && in_bounds (K.Key.WIDTH + 28) (split_means K.DecodedKey.decoding K.Key.WIDTH self.now.used self.now.directory.now self.now.records.now self.now.values.now) entry.number (len + 4)) }
+        ensures { result ≡ (space self.now entry.number len && in_bounds (K.Key.WIDTH + 28) (meaning self.now) entry.number (len + 4)) }
     {
         let (row, byte) = self.end();
         let record = K::WIDTH + 28;
@@ -122,7 +124,7 @@ impl<'a, K: DecodedKey> SplitJournal<'a, K> {
     // Where a row with a value of so many bytes goes, or why it does not.
     fn place(&self, section: u64, len: usize) -> Result<Spot, JournalFault>
         requires { len ≤ 4096 }
-        ensures { result ≡ place_answer K.DecodedKey.decoding K.Key.WIDTH self.now.used self.now.directory.now self.now.records.now self.now.values.now section len }
+        ensures { result ≡ place_answer self.now section len }
     {
         let sections = self.sections();
         if sections.is_below(section) {
@@ -144,9 +146,9 @@ impl<'a, K: DecodedKey> SplitJournal<'a, K> {
     // The stored bytes of the first rows of an entry.
     fn kept_bytes(&self, entry: Section, rows: u64) -> u64
         requires within { entry.first_row * (K.Key.WIDTH + 28) + entry.rows * (K.Key.WIDTH + 28) ≤ length self.now.records.now }
-        requires own { IsEntry (split_parts K.DecodedKey.decoding K.Key.WIDTH self.now.used self.now.directory.now self.now.records.now self.now.values.now) entry }
+        requires own { IsEntry (parts self.now) entry }
         requires few { rows ≤ entry.rows }
-        ensures { result ≡ stored_bytes (take rows (rows_at entry.number (split_parts K.DecodedKey.decoding K.Key.WIDTH self.now.used self.now.directory.now self.now.records.now self.now.values.now))) }
+        ensures { result ≡ stored_bytes (take rows (rows_at entry.number (parts self.now))) }
     {
         if rows == entry.rows {
             return entry.bytes;
@@ -157,7 +159,7 @@ impl<'a, K: DecodedKey> SplitJournal<'a, K> {
     // Where a restore to so many record bytes of a section cuts the directory, and the section's entry then; or why it is
     // refused.
     fn cut(&self, section: u64, bytes: u64) -> Result<Cut, JournalFault>
-        ensures { result ≡ cut_answer K.DecodedKey.decoding K.Key.WIDTH self.now.used self.now.directory.now self.now.records.now self.now.values.now section bytes }
+        ensures { result ≡ cut_answer self.now section bytes }
     {
         let entry = self.entry(section);
         let size = (K::WIDTH + 28) as u64;
@@ -177,9 +179,11 @@ impl<'a, K: DecodedKey> SplitJournal<'a, K> {
 }
 
 impl<'a, K: DecodedKey, V: Value> Journal<K, V> for SplitJournal<'a, K> {
-    ghost means = { λ j. split_means K.DecodedKey.decoding K.Key.WIDTH j.used j.directory.now j.records.now j.values.now };
+    ghost use Rattle.split.specs.Whole.{meaning, space};
 
-    ghost space = { λ j. split_space K.DecodedKey.decoding K.Key.WIDTH j.used j.directory.now j.records.now j.values.now };
+    ghost means = { λ j. meaning j };
+
+    ghost space = { λ j. space j };
 
     ghost lent = { λ j. j.records.ghost_name ∷ (j.values.ghost_name ∷ (j.directory.ghost_name ∷ [])) };
 
