@@ -1,7 +1,7 @@
 -- A section among the others: those before it, its own rows, those behind it.
-use Rattle.std.proofs.Common.{◌≡◌, ℕ, suc, ◌+◌, ◌^◌, ◌<◌, ◌≤◌, Bool, true, false, cond, eqb, ltb, leb, List, [], ◌∷◌, ◌++◌, length, take, sym, refl, ap, ◌∙◌, subst, ⊎_elim, add-zero, add_assoc, arith}
-use Rattle.std.proofs.lemmas.List.{append-nil}
-use Rattle.std.proofs.lemmas.Bool.{lt-ltb, le-ltb, le-leb, lt-leb, eq-eqb, ne_eqb, cond-true, cond-false, cases_lt, cases_order}
+use Rattle.std.proofs.Common.{◌≡◌, ℕ, suc, ◌+◌, ◌^◌, ◌<◌, ◌≤◌, true, false, cond, ltb, List, [], ◌∷◌, ◌++◌, length, take, refl, ap, ◌∙◌, arith}
+use Rattle.std.proofs.lemmas.Bool.Decides.{nat_tests}
+use Rattle.std.proofs.lemmas.Grind.{common_steps}
 use Rattle.journal.specs.Flat.{rows_of, sections_from}
 use Rattle.journal.specs.Rows.{Row, stored_bytes}
 use Rattle.journal.proofs.Flat.{rows_append}
@@ -12,25 +12,12 @@ use Rattle.split.specs.Parts.{Part, Proper, RowsFit, part, part_of, labelled, fl
 module _ {K : Type 0} (s : ℕ) where
   pub none_above : (low : ℕ) (ps : List (Part K)) → Proper low ps → s < low → rows_at s ps ≡ []
   none_above low [] h l = refl
-  none_above low (p ∷ ps) h l =
-      cond-false (eqb p.number s) p.rows (rows_at s ps) (ne_eqb p.number s (λ e. omega (arith, h.0))) ∙ none_above (suc p.number) ps h.2 (omega (arith, h.0))
+  none_above low (p ∷ ps) h l = grind (arith, nat_tests, none_above (suc p.number) ps h.2, h.0)
 
   -- sections are those before s, s itself, and those behind it
   pub apart : (low : ℕ) (ps : List (Part K)) → Proper low ps → ps ≡ under s ps ++ (part_of s (rows_at s ps) ++ over s ps)
   apart low [] h = refl
-  apart low (p ∷ ps) h =
-      let F : Bool → Bool → Bool → List (Part K) = λ x y z. cond x (p ∷ under s ps) [] ++ (part_of s (cond y p.rows (rows_at s ps)) ++ cond z (over s ps) (p ∷ ps)) in
-      ⊎_elim
-      (λ e.
-      let own : part_of s p.rows ≡ p ∷ [] = own_part p.rows h.1.some ∙ ap (λ n. part n p.rows ∷ []) (sym e) in
-      let behind : over s ps ≡ ps = all_behind (suc p.number) ps h.2 (omega arith) in
-      sym ((λ i. F (le-ltb p.number s (omega arith) i) (eq-eqb p.number s e i) (le-leb p.number s (omega arith) i)) ∙ (λ i. own i ++ behind i)))
-      (⊎_elim
-      (λ l. ap (λ qs. p ∷ qs) (apart (suc p.number) ps h.2)
-      ∙ sym (λ i. F (lt-ltb p.number s l i) (ne_eqb p.number s (λ e. omega arith) i) (le-leb p.number s (omega arith) i)))
-      (λ g. sym ((λ i. F (le-ltb p.number s (omega arith) i) (ne_eqb p.number s (λ e. omega arith) i) (lt-leb p.number s g i))
-      ∙ ap (λ rows. part_of s rows ++ (p ∷ ps)) (none_above (suc p.number) ps h.2 (omega arith)))))
-      (cases_order p.number s)
+  apart low (p ∷ ps) h = grind (arith, nat_tests, common_steps, apart (suc p.number) ps h.2, none_above (suc p.number) ps h.2, all_behind (suc p.number) ps h.2, own_part p.rows h.1.some, h.0)
     where
       own_part : (rows : List (Row K)) → 0 < length rows → part_of s rows ≡ part s rows ∷ []
       own_part [] l = absurd (omega arith)
@@ -38,7 +25,7 @@ module _ {K : Type 0} (s : ℕ) where
 
       all_behind : (low : ℕ) (ps : List (Part K)) → Proper low ps → s < low → over s ps ≡ ps
       all_behind low [] h l = refl
-      all_behind low (p ∷ ps) h l = cond-false (leb p.number s) (over s ps) (p ∷ ps) (lt-leb p.number s (omega (arith, h.0)))
+      all_behind low (p ∷ ps) h l = grind (arith, nat_tests, h.0)
 
   -- the directory up to s
   pub under_directory : (row byte : ℕ) (ps : List (Part K)) → directory_of row byte (under s ps) ≡ take (before s (numbers (directory_of row byte ps))) (directory_of row byte ps)
@@ -52,54 +39,22 @@ module _ {K : Type 0} (s : ℕ) where
   -- the entry of s
   pub entry_is : (low row byte : ℕ) (ps : List (Part K)) → Proper low ps →
       entry_of s row byte (directory_of row byte ps) ≡ entry s (row + row_total (under s ps)) (byte + byte_total (under s ps)) (length (rows_at s ps)) (stored_bytes (rows_at s ps))
-  entry_is low row byte [] h = λ i. entry s (sym (add-zero row) i) (sym (add-zero byte) i) 0 0
-  entry_is low row byte (p ∷ ps) h =
-      let next : Section = entry_of s (row + length p.rows) (byte + stored_bytes p.rows) (directory_of (row + length p.rows) (byte + stored_bytes p.rows) ps) in
-      let own : Section = entry p.number row byte (length p.rows) (stored_bytes p.rows) in
-      let F : Bool → Bool → Section = λ x y. cond x next (cond y own (entry s row byte 0 0)) in
-      let G : Bool → Bool → Section = λ x y. entry s (row + row_total (cond x (p ∷ under s ps) [])) (byte + byte_total (cond x (p ∷ under s ps) [])) (length (cond y p.rows (rows_at s ps))) (stored_bytes (cond y p.rows (rows_at s ps))) in
-      ⊎_elim
-      (λ e.
-      let a = le-ltb p.number s (omega arith) in
-      let b = eq-eqb p.number s e in
-      (λ i. F (a i) (b i)) ∙ (λ i. entry (e i) (sym (add-zero row) i) (sym (add-zero byte) i) (length p.rows) (stored_bytes p.rows)) ∙ sym (λ i. G (a i) (b i)))
-      (⊎_elim
-      (λ l.
-      let a = lt-ltb p.number s l in
-      let b = ne_eqb p.number s (λ e. omega arith) in
-      (λ i. F (a i) (b i)) ∙ entry_is (suc p.number) (row + length p.rows) (byte + stored_bytes p.rows) ps h.2
-      ∙ (λ i. entry s (add_assoc row (length p.rows) (row_total (under s ps)) i) (add_assoc byte (stored_bytes p.rows) (byte_total (under s ps)) i) (length (rows_at s ps)) (stored_bytes (rows_at s ps)))
-      ∙ sym (λ i. G (a i) (b i)))
-      (λ g.
-      let a = le-ltb p.number s (omega arith) in
-      let b = ne_eqb p.number s (λ e. omega arith) in
-      let n : rows_at s ps ≡ [] = none_above (suc p.number) ps h.2 (omega arith) in
-      (λ i. F (a i) (b i)) ∙ (λ i. entry s (sym (add-zero row) i) (sym (add-zero byte) i) (length (sym n i)) (stored_bytes (sym n i))) ∙ sym (λ i. G (a i) (b i))))
-      (cases_order p.number s)
+  entry_is low row byte [] h = grind arith
+  entry_is low row byte (p ∷ ps) h = grind (arith, nat_tests, entry_is (suc p.number) (row + length p.rows) (byte + stored_bytes p.rows) ps h.2, none_above (suc p.number) ps h.2)
 
   labelled_own : (rows : List (Row K)) → rows_of label unlabelled s (labelled s rows) ≡ rows
   labelled_own [] = refl
-  labelled_own (r ∷ rs) = cond-true (eqb s s) _ _ (eq-eqb s s refl) ∙ ap (λ l. r ∷ l) (labelled_own rs)
+  labelled_own (r ∷ rs) = grind (arith, nat_tests, labelled_own rs)
 
   labelled_other : (n : ℕ) (rows : List (Row K)) → (n ≡ s → ⊥) → rows_of label unlabelled s (labelled n rows) ≡ []
   labelled_other n [] h = refl
-  labelled_other n (r ∷ rs) h = cond-false (eqb n s) _ _ (ne_eqb n s h) ∙ labelled_other n rs h
+  labelled_other n (r ∷ rs) h = grind (arith, nat_tests, labelled_other n rs h)
 
   -- the rows of s among all
   pub rows_flat : (low : ℕ) (ps : List (Part K)) → Proper low ps → rows_of label unlabelled s (flat ps) ≡ rows_at s ps
   rows_flat low [] h = refl
   rows_flat low (p ∷ ps) h =
-      rows_append label unlabelled s (labelled p.number p.rows) (flat ps)
-      ∙ ap (λ l. rows_of label unlabelled s (labelled p.number p.rows) ++ l) (rows_flat (suc p.number) ps h.2)
-      ∙ ⊎_elim
-      (λ e.
-      let own : rows_of label unlabelled s (labelled p.number p.rows) ≡ p.rows = ap (λ n. rows_of label unlabelled s (labelled n p.rows)) e ∙ labelled_own p.rows in
-      let none : rows_at s ps ≡ [] = none_above (suc p.number) ps h.2 (omega arith) in
-      (λ i. own i ++ none i) ∙ append-nil p.rows ∙ sym (cond-true (eqb p.number s) _ _ (eq-eqb p.number s e)))
-      (λ ne.
-      let none_eq : p.number ≡ s → ⊥ = λ e. ⊎_elim (λ l. omega arith) (λ g. omega arith) ne in
-      ap (λ l. l ++ rows_at s ps) (labelled_other p.number p.rows none_eq) ∙ sym (cond-false (eqb p.number s) _ _ (ne_eqb p.number s none_eq)))
-      (cases_order p.number s)
+      grind (arith, nat_tests, common_steps, rows_append label unlabelled s (labelled p.number p.rows) (flat ps), rows_flat (suc p.number) ps h.2, none_above (suc p.number) ps h.2, labelled_own p.rows, labelled_other p.number p.rows)
 
   alone : (low : ℕ) (rows : List (Row K)) → low ≤ s → RowsFit rows → stored_bytes rows ≤ 2 ^ 63 → Proper low (part_of s rows)
   alone low [] l f b = tt
@@ -108,12 +63,7 @@ module _ {K : Type 0} (s : ℕ) where
   -- s with other rows, behind those before it
   pub under_proper : (low : ℕ) (ps : List (Part K)) (rows : List (Row K)) → low ≤ s → Proper low ps → RowsFit rows → stored_bytes rows ≤ 2 ^ 63 → Proper low (under s ps ++ part_of s rows)
   under_proper low [] rows l h f b = alone low rows l f b
-  under_proper low (p ∷ ps) rows l h f b =
-      let F : Bool → Type 0 = λ x. Proper low (cond x (p ∷ under s ps) [] ++ part_of s rows) in
-      ⊎_elim
-      (λ lt. subst F (sym (lt-ltb p.number s lt)) (h.0, h.1, under_proper (suc p.number) ps rows lt h.2 f b))
-      (λ ge. subst F (sym (le-ltb p.number s ge)) (alone low rows l f b))
-      (cases_lt p.number s)
+  under_proper low (p ∷ ps) rows l h f b = grind (arith, nat_tests, under_proper (suc p.number) ps rows, alone low rows l f b, h.0, h.1, h.2, f)
 
 module _ {K : Type 0} where
   pub rising : (low row byte : ℕ) (ps : List (Part K)) → Proper low ps → Rising low (numbers (directory_of row byte ps))
@@ -121,12 +71,12 @@ module _ {K : Type 0} where
   rising low row byte (p ∷ ps) h = (h.0, rising (suc p.number) (row + length p.rows) (byte + stored_bytes p.rows) ps h.2)
 
   pub end_row_is : (row byte : ℕ) (ps : List (Part K)) → end_row row (directory_of row byte ps) ≡ row + row_total ps
-  end_row_is row byte [] = sym (add-zero row)
-  end_row_is row byte (p ∷ ps) = end_row_is (row + length p.rows) (byte + stored_bytes p.rows) ps ∙ add_assoc row (length p.rows) (row_total ps)
+  end_row_is row byte [] = omega arith
+  end_row_is row byte (p ∷ ps) = omega (arith, end_row_is (row + length p.rows) (byte + stored_bytes p.rows) ps)
 
   pub end_byte_is : (row byte : ℕ) (ps : List (Part K)) → end_byte byte (directory_of row byte ps) ≡ byte + byte_total ps
-  end_byte_is row byte [] = sym (add-zero byte)
-  end_byte_is row byte (p ∷ ps) = end_byte_is (row + length p.rows) (byte + stored_bytes p.rows) ps ∙ add_assoc byte (stored_bytes p.rows) (byte_total ps)
+  end_byte_is row byte [] = omega arith
+  end_byte_is row byte (p ∷ ps) = omega (arith, end_byte_is (row + length p.rows) (byte + stored_bytes p.rows) ps)
 
   sections_labelled : (n s : ℕ) (rows : List (Row K)) (xs : List (ℕ × Row K)) → 0 < length rows → sections_from label unlabelled n (labelled s rows ++ xs) ≡ sections_from label unlabelled (suc s) xs
   sections_labelled n s [] xs l = absurd (omega arith)
@@ -147,5 +97,4 @@ module _ {K : Type 0} where
   pub none_over : (s low n row byte : ℕ) (ps : List (Part K)) → Proper low ps → top n (directory_of row byte ps) ≤ suc s → over s ps ≡ []
   none_over s low n row byte [] h l = refl
   none_over s low n row byte (p ∷ ps) h l =
-      let m = top_low (suc p.number) ps (row + length p.rows) (byte + stored_bytes p.rows) h.2 in
-      cond-true (leb p.number s) _ _ (le-leb p.number s (omega arith)) ∙ none_over s (suc p.number) (suc p.number) (row + length p.rows) (byte + stored_bytes p.rows) ps h.2 l
+      grind (arith, nat_tests, top_low (suc p.number) ps (row + length p.rows) (byte + stored_bytes p.rows) h.2, none_over s (suc p.number) (suc p.number) (row + length p.rows) (byte + stored_bytes p.rows) ps h.2 l)

@@ -1,15 +1,11 @@
--- A row found by the place of its value.
-use Rattle.std.proofs.Common.{◌≡◌, ℕ, zero, suc, ◌+◌, ◌-◌, ◌*◌, ◌^◌, ◌<◌, ◌≤◌, Bool, true, false, cond, ◌&&◌, eqb, ltb, List, [], ◌∷◌, ◌++◌, length, get_or, take, drop, is_some, Some, None, Option, sym, refl, ap, ◌∙◌, ⊎_elim, append_assoc, mul-le-mul_right, suc-mul, zero-mul, arith}
-use Rattle.std.proofs.lemmas.List.{drop-drop, drop_at, take_at}
-use Rattle.std.proofs.lemmas.Bool.{lt-ltb, le-ltb, eq-eqb, ne_eqb, and_left, eqb-true, cond-true, cond-false, cases_lt, cases_order, cases_Bool}
-use Rattle.journal.specs.Answers.{record_of}
-use Rattle.journal.specs.Layouts.{record_encoding, record_read}
-use Rattle.journal.specs.Rows.{Row, stored_at, stored_bytes}
-use Rattle.journal.proofs.ReadRecord.{length_record, read_encoded}
-use Rattle.split.specs.Directory.{Rising, before}
-use Rattle.split.specs.Parts.{RowsFit, records_from, stored_of_rows}
-use Rattle.split.specs.Places.{each_of, has_place_lem, offsets, sizes}
-use Rattle.split.proofs.Reread.{record_fits}
+-- Records by index, and one found by the place of its value.
+use Rattle.std.proofs.Common.{◌≡◌, ℕ, zero, suc, ◌+◌, ◌-◌, ◌*◌, ◌<◌, ◌≤◌, false, ◌&&◌, eqb, List, [], ◌∷◌, length, get_or, take, drop, sym, refl, ap, ◌∙◌, suc-mul, zero-mul, arith}
+use Rattle.std.proofs.lemmas.List.{drop-drop, drop-take, take-take}
+use Rattle.std.specs.List.{between}
+use Rattle.std.proofs.lemmas.Bool.Decides.{nat_tests}
+use Rattle.codec.specs.Bytes.{number}
+use Rattle.split.specs.Directory.{before}
+use Rattle.split.specs.Places.{each_of, has_place}
 
 -- ---- by index
 
@@ -24,136 +20,26 @@ get_or_each f w (suc n) (suc i) d records l =
     let k : w + 28 + i * (w + 28) ≡ suc i * (w + 28) = omega (arith, suc-mul i (w + 28)) in
     get_or_each f w n i d (drop (w + 28) records) (omega arith) ∙ ap f (drop-drop (i * (w + 28)) (w + 28) records ∙ ap (λ m. drop m records) k)
 
--- a record inside others
-pub record_inside : (i n m : ℕ) → i < n → i * m + m ≤ n * m
-record_inside i n m l = omega (arith, suc-mul i m, mul-le-mul_right {m = suc i} {n = n} m l)
+-- a number of the record at an index, read from the record alone
+pub read_at : (a e w n row k : ℕ) (own records : List ℕ) → own ≡ take (w + 28) (drop (row * (w + 28)) records) → row < n → k ≡ e - a → a ≤ e → e ≤ w + 28 →
+    number (take k (drop a own)) ≡ get_or (each_of (λ rs. number (between a e rs)) w n records) row 0
+read_at a e w n row k own records is inside long order within =
+    let rs : List ℕ = drop (row * (w + 28)) records in
+    let all : w + 28 ≡ a + (w + 28 - a) = omega arith in
+    ap number ((λ i. take (long i) (drop a (is i))) ∙ ap (λ m. take (e - a) (drop a (take m rs))) all ∙ ap (take (e - a)) (drop-take a (w + 28 - a) rs) ∙ take-take (e - a) (w + 28 - a) (drop a rs) (omega arith))
+    ∙ sym (get_or_each (λ rs. number (between a e rs)) w n row 0 records inside)
 
--- a part of a list, at an index in a part
-pub part_of_part : (a b k at j : ℕ) (xs : List ℕ) → k + a ≡ at → b ≡ at + j - at → take b (drop at xs) ≡ take j (drop a (drop k xs))
-part_of_part a b k at j xs e f =
-    let w : b ≡ j = omega arith in
-    (λ i. take (w i) (drop (sym e i) xs)) ∙ ap (take j) (sym (drop-drop a k xs))
+-- ---- by place
 
-pub has_none : (offset size : ℕ) (ms ks : List ℕ) → length ms ≤ before offset ms → has_place_lem offset size ms ks ≡ false
+pub has_none : (offset size : ℕ) (ms ks : List ℕ) → length ms ≤ before offset ms → has_place offset size ms ks ≡ false
 has_none offset size [] ks l = refl
 has_none offset size (m ∷ ms) [] l = refl
-has_none offset size (m ∷ ms) (k ∷ ks) l =
-    ⊎_elim
-    (λ q.
-    let e : before offset (m ∷ ms) ≡ suc (before offset ms) = cond-true (ltb m offset) _ _ (lt-ltb m offset q) in
-    cond-true (ltb m offset) _ _ (lt-ltb m offset q) ∙ has_none offset size ms ks (omega (arith, e)))
-    (λ q. let e : before offset (m ∷ ms) ≡ 0 = cond-false (ltb m offset) _ _ (le-ltb m offset q) in absurd (omega (arith, e)))
-    (cases_lt m offset)
+has_none offset size (m ∷ ms) (k ∷ ks) l = grind (arith, nat_tests, has_none offset size ms ks)
 
 pub has_at : (offset size : ℕ) (ms ks : List ℕ) → length ms ≡ length ks → before offset ms < length ms →
-    has_place_lem offset size ms ks ≡ (eqb (get_or ms (before offset ms) 0) offset && eqb (get_or ks (before offset ms) 0) size)
+    has_place offset size ms ks ≡ (eqb (get_or ms (before offset ms) 0) offset && eqb (get_or ks (before offset ms) 0) size)
 has_at offset size [] ks e l = absurd (omega arith)
 has_at offset size (m ∷ ms) [] e l = absurd (omega arith)
-has_at offset size (m ∷ ms) (k ∷ ks) e l =
-    let at : ℕ → Bool = λ i. eqb (get_or (m ∷ ms) i 0) offset && eqb (get_or (k ∷ ks) i 0) size in
-    ⊎_elim
-    (λ q.
-    let b : before offset (m ∷ ms) ≡ suc (before offset ms) = cond-true (ltb m offset) _ _ (lt-ltb m offset q) in
-    cond-true (ltb m offset) _ _ (lt-ltb m offset q) ∙ has_at offset size ms ks (omega arith) (omega (arith, b)) ∙ sym (ap at b))
-    (λ q.
-    let b : before offset (m ∷ ms) ≡ 0 = cond-false (ltb m offset) _ _ (le-ltb m offset q) in
-    cond-false (ltb m offset) _ _ (le-ltb m offset q) ∙ sym (ap at b))
-    (cases_lt m offset)
+has_at offset size (m ∷ ms) (k ∷ ks) e l = grind (arith, nat_tests, has_at offset size ms ks)
 
--- ---- by rows
-
-module _ {K : Type 0} where
-  -- where the values of rows begin, from an offset on
-  abbrev pub starts : ℕ → List (Row K) → List ℕ
-  starts from [] = []
-  starts from (r ∷ rs) = from ∷ starts (from + length r.stored) rs
-
-  abbrev pub lengths : List (Row K) → List ℕ
-  lengths [] = []
-  lengths (r ∷ rs) = length r.stored ∷ lengths rs
-
-  pub starts_rise : (low from : ℕ) (rows : List (Row K)) → RowsFit rows → low ≤ from → Rising low (starts from rows)
-  starts_rise low from [] f l = tt
-  starts_rise low from (r ∷ rs) f l = (l, starts_rise (suc from) (from + length r.stored) rs f.1 (omega (arith, f.0.has_check)))
-
-  none_later : (from offset size : ℕ) (rows : List (Row K)) → offset < from → stored_at from rows offset size ≡ None
-  none_later from offset size [] l = refl
-  none_later from offset size (r ∷ rs) l =
-      cond-false (eqb from offset && eqb (length r.stored) size) _ _ (and_left _ _ (ne_eqb from offset (λ e. omega arith))) ∙ none_later (from + length r.stored) offset size rs (omega arith)
-
-  pub held : (from offset size : ℕ) (rows : List (Row K)) → RowsFit rows → has_place_lem offset size (starts from rows) (lengths rows) ≡ is_some (stored_at from rows offset size)
-  held from offset size [] f = refl
-  held from offset size (r ∷ rs) f =
-      let k = length r.stored in
-      let next : Option (List ℕ) = stored_at (from + k) rs offset size in
-      ⊎_elim
-      (λ e.
-      let none : next ≡ None = none_later (from + k) offset size rs (omega (arith, f.0.has_check)) in
-      cond-false (ltb from offset) _ _ (le-ltb from offset (omega arith))
-      ∙ ap (λ b. b && eqb k size) (eq-eqb from offset e)
-      ∙ elim (eqb k size) as (λ b. b ≡ is_some (cond b (Some r.stored) None)) [ true ↦ refl | false ↦ refl ]
-      ∙ sym (ap is_some ((λ i. cond (eq-eqb from offset e i && eqb k size) (Some r.stored) (none i)))))
-      (⊎_elim
-      (λ l.
-      cond-true (ltb from offset) _ _ (lt-ltb from offset l) ∙ held (from + k) offset size rs f.1
-      ∙ sym (ap is_some (cond-false (eqb from offset && eqb k size) (Some r.stored) next (and_left _ _ (ne_eqb from offset (λ e. omega arith))))))
-      (λ g.
-      cond-false (ltb from offset) _ _ (le-ltb from offset (omega arith)) ∙ and_left _ _ (ne_eqb from offset (λ e. omega arith))
-      ∙ sym (ap is_some (none_later from offset size (r ∷ rs) g))))
-      (cases_order from offset)
-
-  -- where it lies among the stored values
-  pub record Lies (from offset size : ℕ) (rows : List (Row K)) (x y : List ℕ) : Type 0 where
-    pub behind : from ≤ offset
-    pub within : offset - from + size ≤ stored_bytes rows
-    pub slice : take size (drop (offset - from) (stored_of_rows rows ++ y)) ≡ x
-
-  pub lies : (from offset size : ℕ) (rows : List (Row K)) (x y : List ℕ) → stored_at from rows offset size ≡ Some x → Lies from offset size rows x y
-  lies from offset size [] x y e = let z : ◌≡◌ {A = ℕ} 0 1 = cc in absurd (omega arith)
-  lies from offset size (r ∷ rs) x y e =
-      let k = length r.stored in
-      let values : List ℕ = stored_of_rows rs ++ y in
-      let v : (r.stored ++ stored_of_rows rs) ++ y ≡ r.stored ++ values = append_assoc r.stored (stored_of_rows rs) y in
-      ⊎_elim
-      (λ t.
-      let p = and_both (eqb from offset) (eqb k size) t in
-      let here : from ≡ offset = eqb-true from offset p.0 in
-      let same : k ≡ size = eqb-true k size p.1 in
-      let is : Some r.stored ≡ Some x = sym (cond-true (eqb from offset && eqb k size) _ _ t) ∙ e in
-      let stored : r.stored ≡ x = cc in
-      let zero_off : offset - from ≡ 0 = omega arith in
-      record {
-        behind = omega arith;
-        within = omega arith;
-        slice = (λ i. take size (drop (zero_off i) (v i))) ∙ take_at r.stored values size same ∙ stored;
-      })
-      (λ f.
-      let rest = lies (from + k) offset size rs x y (sym (cond-false (eqb from offset && eqb k size) _ _ f) ∙ e) in
-      let off : offset - from ≡ k + (offset - (from + k)) = omega (arith, rest.behind) in
-      record {
-        behind = omega (arith, rest.behind);
-        within = omega (arith, rest.within, rest.behind);
-        slice = (λ i. take size (drop (off i) (v i))) ∙ ap (take size) (sym (drop-drop (offset - (from + k)) k (r.stored ++ values)) ∙ ap (drop (offset - (from + k))) (drop_at r.stored values k refl)) ∙ rest.slice;
-      })
-      (cases_Bool (eqb from offset && eqb k size))
-    where
-      and_both : (p q : Bool) → (p && q) ≡ true → (p ≡ true) × (q ≡ true)
-      and_both true q t = (refl, t)
-      and_both false q t = let z : ◌≡◌ {A = ℕ} 0 1 = cc in absurd (omega arith)
-
-module _ {K : Type 0} (bytes : K → List ℕ) (w : ℕ) (sized : (k : K) → length (bytes k) ≡ w) (decoding : List ℕ → K) (back : (k : K) → decoding (bytes k) ≡ k) where
-  -- what the records of rows say
-  pub records_say : (from : ℕ) (rows : List (Row K)) (x : List ℕ) → RowsFit rows → from + stored_bytes rows ≤ 2 ^ 63 →
-      (offsets w (length rows) (records_from bytes from rows ++ x) ≡ starts from rows) × (sizes w (length rows) (records_from bytes from rows ++ x) ≡ lengths rows)
-  records_say from [] x f h = (refl, refl)
-  records_say from (r ∷ rs) x f h =
-      let enc : List ℕ = record_encoding bytes (record_of from r) in
-      let more : List ℕ = records_from bytes (from + length r.stored) rs in
-      let e : (enc ++ more) ++ x ≡ enc ++ (more ++ x) = append_assoc enc more x in
-      let read : record_read decoding w (enc ++ (more ++ x)) ≡ record_of from r =
-      read_encoded bytes w sized decoding back (record_of from r) (record_fits bytes w sized decoding back from r f.0 (omega arith)) (more ++ x) in
-      let behind : drop (w + 28) (enc ++ (more ++ x)) ≡ more ++ x = drop_at enc (more ++ x) (w + 28) (length_record bytes w sized (record_of from r)) in
-      let rest = records_say (from + length r.stored) rs x f.1 (omega arith) in (
-        ap (offsets w (suc (length rs))) e ∙ (λ i. (read i).value_offset ∷ offsets w (length rs) (behind i)) ∙ ap (λ l. from ∷ l) rest.0,
-        ap (sizes w (suc (length rs))) e ∙ (λ i. (read i).value_size ∷ sizes w (length rs) (behind i)) ∙ ap (λ l. length r.stored ∷ l) rest.1,
-      )
+pub ruleset places = (length_each, has_at, has_none)

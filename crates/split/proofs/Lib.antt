@@ -1,12 +1,13 @@
+pub mod Kind
 pub mod Lengths
 pub mod Reread
 pub mod Around
 pub mod Halving
 pub mod Found
+pub mod Rows
 pub mod Standing
 pub mod Changes
 pub mod Ready
 pub mod Looks
-pub mod Rooms
 pub mod Restores
 pub mod Appends

@@ -7,12 +7,13 @@ use Rattle.journal.specs.Rows.{Row, stored_bytes}
 use Rattle.journal.proofs.ReadRecord.{length_record, read_encoded}
 use Rattle.split.specs.declared.section.Section.{Section}
 use Rattle.split.specs.Parts.{Part, part, RowFits, RowsFit, Proper, Laid, directory_of, row_with, rows_read, parts_read, stored_of_rows, values_of, records_from, records_of}
+use Rattle.split.proofs.Kind.{Kind}
 use Rattle.split.proofs.Lengths.{length_stored_rows, length_records_from}
 
-module _ {K : Type 0} (bytes : K → List ℕ) (w : ℕ) (sized : (k : K) → length (bytes k) ≡ w) (decoding : List ℕ → K) (back : (k : K) → decoding (bytes k) ≡ k) where
-  pub record_fits : (offset : ℕ) (r : Row K) → RowFits r → offset + length r.stored ≤ 2 ^ 63 → RecordFits (record_of offset r)
-  record_fits offset r f h = (f.next_section_fits, f.next_position_fits, omega arith, f.size_fits)
+pub record_fits : {K : Type 0} (offset : ℕ) (r : Row K) → RowFits r → offset + length r.stored ≤ 2 ^ 63 → RecordFits (record_of offset r)
+record_fits offset r f h = (f.next_section_fits, f.next_position_fits, omega arith, f.size_fits)
 
+module _ {K : Type 0} {bytes : K → List ℕ} {w : ℕ} {decoding : List ℕ → K} (key : Kind bytes w decoding) where
   rows_back : (offset : ℕ) (rows : List (Row K)) → RowsFit rows → offset + stored_bytes rows ≤ 2 ^ 63 → (x y : List ℕ) →
       rows_read decoding w (length rows) (records_from bytes offset rows ++ x) (stored_of_rows rows ++ y) ≡ rows
   rows_back offset [] f h x y = refl
@@ -23,14 +24,14 @@ module _ {K : Type 0} (bytes : K → List ℕ) (w : ℕ) (sized : (k : K) → le
       let e : (enc ++ more) ++ x ≡ enc ++ (more ++ x) = append_assoc enc more x in
       let v : (r.stored ++ stored_of_rows rs) ++ y ≡ r.stored ++ values = append_assoc r.stored (stored_of_rows rs) y in
       let read : record_read decoding w (enc ++ (more ++ x)) ≡ record_of offset r =
-      read_encoded bytes w sized decoding back (record_of offset r) (record_fits offset r f.0 (omega arith)) (more ++ x) in
+      read_encoded bytes w key.sized decoding key.back (record_of offset r) (record_fits offset r f.0 (omega arith)) (more ++ x) in
       let front : row_with (record_of offset r) (r.stored ++ values) ≡ r = λ i. record {
         key = r.key;
         next_section = r.next_section;
         next_position = r.next_position;
         stored = take_at r.stored values (length r.stored) refl i;
       } in
-      let recs : drop (w + 28) (enc ++ (more ++ x)) ≡ more ++ x = drop_at enc (more ++ x) (w + 28) (length_record bytes w sized (record_of offset r)) in
+      let recs : drop (w + 28) (enc ++ (more ++ x)) ≡ more ++ x = drop_at enc (more ++ x) (w + 28) (length_record bytes w key.sized (record_of offset r)) in
       let vals : drop (length r.stored) (r.stored ++ values) ≡ values = drop_at r.stored values (length r.stored) refl in
       (λ i. rows_read decoding w (suc (length rs)) (e i) (v i))
       ∙ (λ i. row_with (read i) (r.stored ++ values) ∷ rows_read decoding w (length rs) (drop (w + 28) (enc ++ (more ++ x))) (drop (read i).value_size (r.stored ++ values)))
@@ -44,18 +45,18 @@ module _ {K : Type 0} (bytes : K → List ℕ) (w : ℕ) (sized : (k : K) → le
       let vals : List ℕ = stored_of_rows p.rows in
       let e : (recs ++ records_of bytes ps) ++ x ≡ recs ++ (records_of bytes ps ++ x) = append_assoc recs (records_of bytes ps) x in
       let v : (vals ++ values_of ps) ++ y ≡ vals ++ (values_of ps ++ y) = append_assoc vals (values_of ps) y in
-      let r : drop (length p.rows * (w + 28)) (recs ++ (records_of bytes ps ++ x)) ≡ records_of bytes ps ++ x = drop_at recs _ _ (length_records_from bytes w sized 0 p.rows) in
+      let r : drop (length p.rows * (w + 28)) (recs ++ (records_of bytes ps ++ x)) ≡ records_of bytes ps ++ x = drop_at recs _ _ (length_records_from key 0 p.rows) in
       let b : drop (stored_bytes p.rows) (vals ++ (values_of ps ++ y)) ≡ values_of ps ++ y = drop_at vals _ _ (length_stored_rows p.rows) in
       let next : List Section = directory_of (row + length p.rows) (byte + stored_bytes p.rows) ps in
       (λ i. parts_read decoding w (directory_of row byte (p ∷ ps)) (e i) (v i))
       ∙ (λ i. part p.number (rows_back 0 p.rows h.1.each (omega (arith, h.1.bounded)) (records_of bytes ps ++ x) (values_of ps ++ y) i) ∷ parts_read decoding w next (r i) (b i))
       ∙ ap (λ l. p ∷ l) (parts_back (suc p.number) (row + length p.rows) (byte + stored_bytes p.rows) ps h.2 x y)
 
-  pub reread : (used : ℕ) (directory : List Section) (records values : List ℕ) (ps : List (Part K)) → Laid bytes w used directory records values ps → parts_read decoding w (take used directory) records values ≡ ps
-  reread used directory records values ps h =
+  pub reread : {used : ℕ} {directory : List Section} {records values : List ℕ} {ps : List (Part K)} → Laid bytes w used directory records values ps → parts_read decoding w (take used directory) records values ≡ ps
+  reread {ps = ps} h =
       (λ i. parts_read decoding w (h.entries i) (h.recorded i) (h.kept i)) ∙ parts_back 0 0 0 ps h.proper _ _
 
   -- so a journal over such memory is in good order
-  pub regood : (used : ℕ) (directory : List Section) (records values : List ℕ) (ps : List (Part K)) → Laid bytes w used directory records values ps →
+  pub regood : {used : ℕ} {directory : List Section} {records values : List ℕ} {ps : List (Part K)} → Laid bytes w used directory records values ps →
       Laid bytes w used directory records values (parts_read decoding w (take used directory) records values)
-  regood used directory records values ps h = subst (Laid bytes w used directory records values) (sym (reread used directory records values ps h)) h
+  regood {used} {directory} {records} {values} h = subst (Laid bytes w used directory records values) (sym (reread h)) h

@@ -1,5 +1,6 @@
 -- A directory of sections: its entries stand in rising order, each begins where the one before it ends.
-use Rattle.std.specs.Prelude.{ℕ, suc, ◌+◌, ◌-◌, ◌≤◌, cond, List, [], ◌∷◌, Some, None, Option, ◌==◌, nat_lt}
+use Rattle.std.specs.Prelude.{ℕ, suc, ◌+◌, ◌-◌, ◌≤◌, cond, List, [], ◌∷◌, map, Some, None, Option, ◌==◌, nat_lt}
+use Rattle.std.specs.Coded.{×_prop, Unit-prop, le_prop}
 use Rattle.split.specs.declared.section.Section.{Section}
 
 -- an entry of its numbers
@@ -12,13 +13,17 @@ nothing = entry 0 0 0 0 0
 
 -- the numbers of the entries
 abbrev pub numbers : List Section → List ℕ
-numbers [] = []
-numbers (d ∷ ds) = d.number ∷ numbers ds
+numbers ds = map (λ d. d.number) ds
 
 -- numbers rise strictly, from `low` on
 abbrev pub Rising : ℕ → List ℕ → Type 0
 Rising low [] = Unit {0}
 Rising low (n ∷ ns) = (low ≤ n) × Rising (suc n) ns
+
+-- which has at most one proof
+pub Rising-prop : (low : ℕ) (ns : List ℕ) → IsProp (Rising low ns)
+Rising-prop low [] = Unit-prop
+Rising-prop low (n ∷ ns) = ×_prop le_prop (Rising-prop (suc n) ns)
 
 -- how many of them stand before n
 abbrev pub before : ℕ → List ℕ → ℕ

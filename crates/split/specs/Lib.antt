@@ -2,3 +2,5 @@ pub mod Parts
 pub mod Directory
 pub mod Places
 pub mod Plans
+pub mod Single
+pub mod Whole

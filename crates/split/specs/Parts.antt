@@ -1,5 +1,5 @@
 -- What a split journal's memory means: sections with their rows, whose records and stored values stand one behind the other.
-use Rattle.std.specs.Prelude.{◌≡◌, ℕ, zero, suc, ◌+◌, ◌*◌, ◌^◌, ◌<◌, ◌≤◌, Bool, cond, ◌&&◌, ◌||◌, List, [], ◌∷◌, ◌++◌, length, take, drop, ◌==◌, nat_le, nat_lt}
+use Rattle.std.specs.Prelude.{◌≡◌, ℕ, zero, suc, ◌+◌, ◌*◌, ◌^◌, ◌<◌, ◌≤◌, Bool, cond, ◌&&◌, ◌||◌, List, [], ◌∷◌, ◌++◌, length, take, drop, map, flat_map, ◌==◌, nat_le, nat_lt}
 use Rattle.journal.specs.declared.record.Record.{Record}
 use Rattle.journal.specs.Answers.{record_of}
 use Rattle.journal.specs.Flat.{flat_means}
@@ -22,13 +22,11 @@ module _ {K : Type 0} where
 
   -- rows with their section beside them
   abbrev pub labelled : ℕ → List (Row K) → List (ℕ × Row K)
-  labelled s [] = []
-  labelled s (r ∷ rs) = (s, r) ∷ labelled s rs
+  labelled s rows = map (λ r. (s, r)) rows
 
   -- all rows, in order
   abbrev pub flat : List (Part K) → List (ℕ × Row K)
-  flat [] = []
-  flat (p ∷ ps) = labelled p.number p.rows ++ flat ps
+  flat ps = flat_map (λ p. labelled p.number p.rows) ps
 
   -- a row's section
   abbrev pub label : ℕ × Row K → ℕ
@@ -83,13 +81,11 @@ module _ {K : Type 0} where
 
   -- stored values, one behind the other
   abbrev pub stored_of_rows : List (Row K) → List ℕ
-  stored_of_rows [] = []
-  stored_of_rows (r ∷ rs) = r.stored ++ stored_of_rows rs
+  stored_of_rows rows = flat_map (λ r. r.stored) rows
 
   -- those of all sections
   abbrev pub values_of : List (Part K) → List ℕ
-  values_of [] = []
-  values_of (p ∷ ps) = stored_of_rows p.rows ++ values_of ps
+  values_of ps = flat_map (λ p. stored_of_rows p.rows) ps
 
   -- a section's records, from an offset on
   abbrev pub records_from : (K → List ℕ) → ℕ → List (Row K) → List ℕ
@@ -98,8 +94,7 @@ module _ {K : Type 0} where
 
   -- those of all sections; offsets begin anew in each
   abbrev pub records_of : (K → List ℕ) → List (Part K) → List ℕ
-  records_of bytes [] = []
-  records_of bytes (p ∷ ps) = records_from bytes 0 p.rows ++ records_of bytes ps
+  records_of bytes ps = flat_map (λ p. records_from bytes 0 p.rows) ps
 
   -- ---- memory, read: keys have a width, and bytes decode to them
 

@@ -1,8 +1,7 @@
 -- Where the rows of a section have their values, as its records say.
-use Rattle.std.specs.Prelude.{ℕ, zero, suc, ◌+◌, ◌*◌, Bool, false, cond, ◌&&◌, List, [], ◌∷◌, drop, ◌==◌, nat_lt}
+use Rattle.std.specs.Prelude.{ℕ, zero, suc, ◌+◌, Bool, false, cond, ◌&&◌, List, [], ◌∷◌, drop, ◌==◌, nat_lt}
 use Rattle.std.specs.List.{between}
 use Rattle.codec.specs.Bytes.{number}
-use Rattle.split.specs.declared.section.Section.{Section}
 
 -- the value offset of the record in front, where keys have a width
 abbrev pub offset_of : ℕ → List ℕ → ℕ
@@ -26,11 +25,7 @@ abbrev pub sizes : ℕ → ℕ → List ℕ → List ℕ
 sizes w n records = each_of (size_of w) w n records
 
 -- has a row this offset and size: the first that does not begin before the offset, since offsets rise
-abbrev pub has_place_lem : ℕ → ℕ → List ℕ → List ℕ → Bool
-has_place_lem offset size [] ks = false
-has_place_lem offset size (m ∷ ms) [] = false
-has_place_lem offset size (m ∷ ms) (k ∷ ks) = cond (nat_lt m offset) (has_place_lem offset size ms ks) (m == offset && k == size)
-
--- the stored bytes of the first n rows of a section, by its entry: all of them, or where the next row begins
-abbrev pub first_bytes : ℕ → List ℕ → Section → ℕ → ℕ
-first_bytes w records d n = cond (n == d.rows) d.bytes (offset_of w (drop ((d.first_row + n) * (w + 28)) records))
+abbrev pub has_place : ℕ → ℕ → List ℕ → List ℕ → Bool
+has_place offset size [] ks = false
+has_place offset size (m ∷ ms) [] = false
+has_place offset size (m ∷ ms) (k ∷ ks) = cond (nat_lt m offset) (has_place offset size ms ks) (m == offset && k == size)

@@ -1,85 +1,78 @@
 // Finding a section in a directory.
+#![tactic(auto, using(crate::proofs::Halving::directory))]
+
 ghost use Rattle.std.specs.Prelude.{◌≡◌, suc, ◌^◌, ◌<◌, nat_lt};
-ghost use Rattle.split.specs.Directory.{Rising, before, end_byte, end_row, entry_of, highest_of, numbers, top};
+ghost use Rattle.split.specs.Directory.{Rising, Rising-prop, end_byte, end_row, entry_of, highest_of, numbers, top};
 
 use crate::section::Section;
+use crate::sorted::Sorted;
 
-// How many entries stand before a section, by halving.
-pub fn before(directory: &[Section], section: u64) -> usize
-    requires { Rising 0 (numbers directory.now) }
-    ensures { result ≡ before section (numbers directory.now) }
-{
-    let mut low = 0;
-    let mut high = directory.len();
-    while low < high {
-        let middle = low + (high - low) / 2;
-        if directory[middle].number < section {
-            low = middle + 1;
-        } else {
-            high = middle;
+// Entries that rise, and that end within what a number holds.
+#[derive(Clone, Copy)]
+pub struct Directory<'a> {
+    pub sections: &'a [Section],
+    ghost rising: { Rising 0 (numbers sections.now) } by { Rising-prop 0 (numbers sections.now) },
+    ghost row: { end_row 0 sections.now < 2 ^ 64 },
+    ghost byte: { end_byte 0 sections.now < 2 ^ 64 },
+}
+
+impl<'a> Sorted for Directory<'a> {
+    ghost numbers = { λ d. numbers d.sections.now };
+
+    ghost rise = { λ d. d.rising };
+
+    fn count(&self) -> usize {
+        self.sections.len()
+    }
+
+    fn number(&self, at: usize) -> u64 {
+        self.sections[at].number
+    }
+}
+
+impl<'a> Directory<'a> {
+    // The row and the byte behind the last entry's.
+    pub fn end(&self) -> (u64, u64)
+        ensures row { result.0 ≡ end_row 0 self.now.sections.now }
+        ensures byte { result.1 ≡ end_byte 0 self.now.sections.now }
+    {
+        match self.sections.last() {
+            Some(last) => (last.first_row + last.rows, last.first_byte + last.bytes),
+            None => (0, 0),
         }
     }
-    low
-}
 
-// The row and the byte behind the last entry's.
-pub fn end(directory: &[Section]) -> (u64, u64)
-    requires { (end_row 0 directory.now < 2 ^ 64) × (end_byte 0 directory.now < 2 ^ 64) }
-    ensures row { result.0 ≡ end_row 0 directory.now }
-    ensures byte { result.1 ≡ end_byte 0 directory.now }
-{
-    let len = directory.len();
-    if len == 0 {
-        return (0, 0);
+    // The last entry's number, or none.
+    pub fn highest(&self) -> Option<u64>
+        ensures { result ≡ highest_of self.now.sections.now }
+    {
+        self.sections.last().map(|last| last.number)
     }
-    let last = directory[len - 1];
-    (last.first_row + last.rows, last.first_byte + last.bytes)
-}
 
-// The last entry's number, or none.
-pub fn highest(directory: &[Section]) -> Option<u64>
-    ensures { result ≡ highest_of directory.now }
-{
-    let len = directory.len();
-    if len == 0 {
-        return None;
+    // Is a section below the last entry's?
+    pub fn is_below(&self, section: u64) -> bool
+        ensures { result ≡ nat_lt (suc section) (top 0 self.now.sections.now) }
+    {
+        self.sections
+            .last()
+            .is_some_and(|last| section < last.number)
     }
-    Some(directory[len - 1].number)
-}
 
-// Is a section below the last entry's?
-pub fn is_below(directory: &[Section], section: u64) -> bool
-    ensures { result ≡ nat_lt (suc section) (top 0 directory.now) }
-{
-    let len = directory.len();
-    len > 0 && section < directory[len - 1].number
-}
-
-// A section's entry; one without rows, where its rows would stand, if it has none.
-pub fn entry_of(directory: &[Section], section: u64) -> Section
-    requires { (Rising 0 (numbers directory.now)) × ((end_row 0 directory.now < 2 ^ 64) × (end_byte 0 directory.now < 2 ^ 64)) }
-    ensures { result ≡ entry_of section 0 0 directory.now }
-{
-    let at = before(directory, section);
-    if at < directory.len() {
-        let entry = directory[at];
-        if entry.number == section {
-            return entry;
-        }
-        return Section {
+    // A section's entry; one without rows, where its rows would stand, if it has none.
+    pub fn entry_of(&self, section: u64) -> Section
+        ensures { result ≡ entry_of section 0 0 self.now.sections.now }
+    {
+        let (first_row, first_byte) = match self.sections.get(self.before(section)) {
+            Some(entry) if entry.number == section => return *entry,
+            Some(entry) => (entry.first_row, entry.first_byte),
+            None => self.end(),
+        };
+        Section {
             number: section,
-            first_row: entry.first_row,
-            first_byte: entry.first_byte,
+            first_row,
+            first_byte,
             rows: 0,
             bytes: 0,
-        };
-    }
-    let (first_row, first_byte) = end(directory);
-    Section {
-        number: section,
-        first_row,
-        first_byte,
-        rows: 0,
-        bytes: 0,
+        }
     }
 }

@@ -3,9 +3,9 @@
 
 mod directory;
 mod place;
-mod places;
-mod room;
+mod records;
 mod section;
+mod sorted;
 mod store;
 
 pub use section::Section;

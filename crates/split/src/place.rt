@@ -5,7 +5,7 @@ use crate::section::Section;
 
 // The index of its section's entry, the bytes behind the records and behind the stored values, and the entry as it was.
 #[derive(Clone, Copy)]
-pub struct Place {
+pub struct Spot {
     pub at: usize,
     pub row: usize,
     pub byte: usize,

@@ -1,28 +1,38 @@
 // The split journal.
-ghost use Rattle.std.specs.Prelude.{◌≡◌, ◌≤◌, [], ◌∷◌};
-ghost use Rattle.split.specs.Parts.{IsSplitGood, split_means, split_space};
-ghost use Rattle.split.specs.Plans.{cut_answer, place_answer};
+ghost use Rattle.std.specs.Prelude.{◌≡◌, ◌+◌, ◌*◌, ◌≤◌, ◌&&◌, [], ◌∷◌, length, take};
+ghost use Rattle.journal.specs.Rows.{in_bounds, stored_bytes, value_end};
+ghost use Rattle.split.specs.Directory.{top};
+ghost use Rattle.split.specs.Parts.{IsSplitGood, byte_total, directory_of, records_from, row_total, rows_at};
+ghost use Rattle.split.specs.Single.{Laid-prop};
 
-use crate::directory::{before, end, entry_of, highest, is_below};
-use crate::place::{Cut, Place, enter};
-use crate::places::{has_place, stored_bytes};
-use crate::room::{Room, has_entry, has_room};
+use crate::directory::Directory;
+use crate::place::{Cut, Spot, enter};
+use crate::records::Records;
 use crate::section::Section;
+use crate::sorted::Sorted;
 use codec::{DecodedKey, Key, Value};
-use journal::{Cursor, Journal, JournalFault, Record, read_stored, write_record, write_stored};
+use journal::{
+    Cursor, Journal, JournalFault, Place, Record, in_limits, read_stored, write_record,
+    write_stored,
+};
 use std::marker::PhantomData;
 
 // Records, stored values and a directory of sections in lent memory; `used` entries of the directory stand.
 #[derive(Drop)]
-pub struct SplitJournal<'a, K> {
+pub struct SplitJournal<'a, K: DecodedKey> {
     records: &'a mut [u8],
     values: &'a mut [u8],
     directory: &'a mut [Section],
     used: usize,
     kind: PhantomData<K>,
+    // The memory holds sections in good order.
+    ghost ok: { IsSplitGood K.DecodedKey.decoding K.Key.WIDTH used directory.now records.now values.now K.Key.bytes } by { Laid-prop },
 }
 
 impl<'a, K: DecodedKey> SplitJournal<'a, K> {
+    ghost use Rattle.split.specs.Plans.{IsEntry, cut_answer, place_answer};
+    ghost use Rattle.split.specs.Whole.{meaning, parts, space};
+
     // An empty journal over this memory.
     pub fn new(
         records: &'a mut [u8],
@@ -36,7 +46,6 @@ impl<'a, K: DecodedKey> SplitJournal<'a, K> {
         ensures values { result.values.now ≡ values.old }
         ensures directory { result.directory.now ≡ directory.old }
         ensures used { result.used ≡ 0 }
-        ensures good { IsSplitGood K.DecodedKey.decoding K.Key.WIDTH result.used result.directory.now result.records.now result.values.now K.Key.bytes }
     {
         SplitJournal {
             records,
@@ -47,91 +56,139 @@ impl<'a, K: DecodedKey> SplitJournal<'a, K> {
         }
     }
 
-    // Where a row with a value of so many bytes goes, or why it does not.
-    fn place(&self, section: u64, len: usize) -> Result<Place, JournalFault>
-        requires good { IsSplitGood K.DecodedKey.decoding K.Key.WIDTH self.now.used self.now.directory.now self.now.records.now self.now.values.now K.Key.bytes }
-        requires short { len ≤ 4096 }
-        ensures { result ≡ place_answer K.DecodedKey.decoding K.Key.WIDTH self.now.used self.now.directory.now self.now.records.now self.now.values.now section len }
+    // The entries in use.
+    fn sections(&self) -> Directory<'_>
+        ensures entries { result.sections.now ≡ directory_of 0 0 (parts self.now) }
+        ensures top { top 0 result.sections.now ≡ (meaning self.now).sections }
     {
-        let used = self.used;
-        let directory = &self.directory[0..used];
-        if is_below(directory, section) {
+        Directory {
+            sections: &self.directory[..self.used],
+        }
+    }
+
+    // A section's entry, and what stands in the memory for it.
+    fn entry(&self, section: u64) -> Section
+        ensures number { result.number ≡ section }
+        ensures own { IsEntry (parts self.now) result }
+        ensures rows { result.rows ≡ length ((meaning self.now).rows section) }
+        ensures bytes { result.bytes ≡ value_end (meaning self.now) section }
+        ensures records { result.first_row * (K.Key.WIDTH + 28) + result.rows * (K.Key.WIDTH + 28) ≤ length self.now.records.now }
+        ensures values { result.first_byte + result.bytes ≤ length self.now.values.now }
+    {
+        self.sections().entry_of(section)
+    }
+
+    // The records of an entry.
+    fn records(&self, entry: Section) -> Records<'_>
+        requires within { entry.first_row * (K.Key.WIDTH + 28) + entry.rows * (K.Key.WIDTH + 28) ≤ length self.now.records.now }
+        requires own { IsEntry (parts self.now) entry }
+        ensures width { result.width ≡ K.Key.WIDTH }
+        ensures rows { result.rows ≡ entry.rows }
+        ensures bytes { result.bytes.now ≡ records_from K.Key.bytes 0 ((meaning self.now).rows entry.number) }
+    {
+        let width = K::WIDTH;
+        let rows = entry.rows as usize;
+        let first = entry.first_row as usize * (width + 28);
+        Records {
+            bytes: &self.records[first..first + rows * (width + 28)],
+            width,
+            rows,
+        }
+    }
+
+    // Where the next record and the next stored value go.
+    fn end(&self) -> (usize, usize)
+        ensures row { result.0 ≡ row_total (parts self.now) * (K.Key.WIDTH + 28) }
+        ensures byte { result.1 ≡ byte_total (parts self.now) }
+        ensures within { (result.0 ≤ length self.now.records.now) × (result.1 ≤ length self.now.values.now) }
+    {
+        let (rows, bytes) = self.sections().end();
+        (rows as usize * (K::WIDTH + 28), bytes as usize)
+    }
+
+    // Does a row with a value of so many bytes fit in the section of an entry?
+    fn has_room(&self, entry: Section, len: usize) -> bool
+        requires own { IsEntry (parts self.now) entry }
+        requires short { len ≤ 4096 }
+        ensures { result ≡ (space self.now entry.number len && in_bounds (K.Key.WIDTH + 28) (meaning self.now) entry.number (len + 4)) }
+    {
+        let (row, byte) = self.end();
+        let record = K::WIDTH + 28;
+        let stored = len + 4;
+        record <= self.records.len() - row
+            && stored <= self.values.len() - byte
+            && (entry.rows > 0 || self.used < self.directory.len())
+            && in_limits(entry.rows, entry.bytes, record as u64, stored as u64)
+    }
+
+    // Where a row with a value of so many bytes goes, or why it does not.
+    fn place(&self, section: u64, len: usize) -> Result<Spot, JournalFault>
+        requires { len ≤ 4096 }
+        ensures { result ≡ place_answer self.now section len }
+    {
+        let sections = self.sections();
+        if sections.is_below(section) {
             return Err(JournalFault::Below(section));
         }
-        let at = before(directory, section);
-        let entry = entry_of(directory, section);
-        let (rows, bytes) = end(directory);
-        let room = Room {
-            records: self.records.len(),
-            values: self.values.len(),
-            entry: has_entry(entry, used, self.directory.len()),
-        };
-        let size = K::WIDTH + 28;
-        if !has_room(room, entry, rows, bytes, size, len + 4) {
+        let entry = self.entry(section);
+        if !self.has_room(entry, len) {
             return Err(JournalFault::Full(section));
         }
-        Ok(Place {
-            at,
-            row: rows as usize * size,
-            byte: bytes as usize,
+        let (row, byte) = self.end();
+        Ok(Spot {
+            at: sections.before(section),
+            row,
+            byte,
             entry,
         })
+    }
+
+    // The stored bytes of the first rows of an entry.
+    fn kept_bytes(&self, entry: Section, rows: u64) -> u64
+        requires within { entry.first_row * (K.Key.WIDTH + 28) + entry.rows * (K.Key.WIDTH + 28) ≤ length self.now.records.now }
+        requires own { IsEntry (parts self.now) entry }
+        requires few { rows ≤ entry.rows }
+        ensures { result ≡ stored_bytes (take rows (rows_at entry.number (parts self.now))) }
+    {
+        if rows == entry.rows {
+            return entry.bytes;
+        }
+        self.records(entry).offset(rows as usize)
     }
 
     // Where a restore to so many record bytes of a section cuts the directory, and the section's entry then; or why it is
     // refused.
     fn cut(&self, section: u64, bytes: u64) -> Result<Cut, JournalFault>
-        requires { IsSplitGood K.DecodedKey.decoding K.Key.WIDTH self.now.used self.now.directory.now self.now.records.now self.now.values.now K.Key.bytes }
-        ensures { result ≡ cut_answer K.DecodedKey.decoding K.Key.WIDTH self.now.used self.now.directory.now self.now.records.now self.now.values.now section bytes }
+        ensures { result ≡ cut_answer self.now section bytes }
     {
-        let used = self.used;
-        let directory = &self.directory[0..used];
-        let at = before(directory, section);
-        let entry = entry_of(directory, section);
-        let width = K::WIDTH;
-        let size = (width + 28) as u64;
+        let entry = self.entry(section);
+        let size = (K::WIDTH + 28) as u64;
         if bytes > entry.rows * size || bytes % size != 0 {
             return Err(JournalFault::Restore(section));
         }
         let rows = bytes / size;
-        let entry = Section {
-            number: section,
-            first_row: entry.first_row,
-            first_byte: entry.first_byte,
-            rows,
-            bytes: stored_bytes(self.records, width, entry, rows),
-        };
-        Ok(Cut { at, entry })
+        Ok(Cut {
+            at: self.sections().before(section),
+            entry: Section {
+                rows,
+                bytes: self.kept_bytes(entry, rows),
+                ..entry
+            },
+        })
     }
 }
 
 impl<'a, K: DecodedKey, V: Value> Journal<K, V> for SplitJournal<'a, K> {
-    ghost means = { λ j. split_means K.DecodedKey.decoding K.Key.WIDTH j.used j.directory.now j.records.now j.values.now };
+    ghost use Rattle.split.specs.Whole.{meaning, space};
 
-    ghost good = { λ j. IsSplitGood K.DecodedKey.decoding K.Key.WIDTH j.used j.directory.now j.records.now j.values.now K.Key.bytes };
+    ghost means = { λ j. meaning j };
 
-    ghost space = { λ j. split_space K.DecodedKey.decoding K.Key.WIDTH j.used j.directory.now j.records.now j.values.now };
+    ghost space = { λ j. space j };
 
     ghost lent = { λ j. j.records.ghost_name ∷ (j.values.ghost_name ∷ (j.directory.ghost_name ∷ [])) };
 
     fn fits(&self, section: u64, value: &V) -> bool {
-        let used = self.used;
-        let directory = &self.directory[0..used];
-        let entry = entry_of(directory, section);
-        let (rows, bytes) = end(directory);
-        let room = Room {
-            records: self.records.len(),
-            values: self.values.len(),
-            entry: has_entry(entry, used, self.directory.len()),
-        };
-        has_room(
-            room,
-            entry,
-            rows,
-            bytes,
-            K::WIDTH + 28,
-            value.encode_size() + 4,
-        )
+        self.has_room(self.entry(section), value.encode_size())
     }
 
     fn append(
@@ -144,10 +201,12 @@ impl<'a, K: DecodedKey, V: Value> Journal<K, V> for SplitJournal<'a, K> {
         let len = value.encode_size();
         let size = K::WIDTH + 28;
         let stored = len + 4;
-        let place = self.place(section, len)?;
-        let entry = place.entry;
-        let row = place.row;
-        let byte = place.byte;
+        let Spot {
+            at,
+            row,
+            byte,
+            entry,
+        } = self.place(section, len)?;
         write_record(
             &mut self.records[row..row + size],
             key,
@@ -156,36 +215,26 @@ impl<'a, K: DecodedKey, V: Value> Journal<K, V> for SplitJournal<'a, K> {
             stored as u32,
         );
         write_stored(&mut self.values[byte..byte + stored], value);
-        self.directory[place.at] = Section {
-            number: section,
-            first_row: entry.first_row,
-            first_byte: entry.first_byte,
+        self.directory[at] = Section {
             rows: entry.rows + 1,
             bytes: entry.bytes + stored as u64,
+            ..entry
         };
-        self.used = place.at + 1;
+        self.used = at + 1;
         Ok((entry.rows, entry.bytes, stored as u32))
     }
 
     fn get(&self, place: Place) -> Result<Record<K>, JournalFault> {
-        let used = self.used;
-        let entry = entry_of(&self.directory[0..used], place.section);
+        let entry = self.entry(place.section);
         if place.position >= entry.rows {
             return Err(JournalFault::NoRow(place));
         }
-        let size = K::WIDTH + 28;
-        let at = (entry.first_row + place.position) as usize * size;
-        Ok(Record::decode(&self.records[at..at + size]))
+        Ok(Record::decode(self.records(entry).at(place.position as usize)))
     }
 
     fn value(&self, cursor: Cursor) -> Result<V, JournalFault> {
-        let used = self.used;
-        let entry = entry_of(&self.directory[0..used], cursor.section);
-        let width = K::WIDTH;
-        let first = entry.first_row as usize * (width + 28);
-        let rows = entry.rows as usize;
-        let records = &self.records[first..first + rows * (width + 28)];
-        if !has_place(records, width, rows, cursor.offset, cursor.size) {
+        let entry = self.entry(cursor.section);
+        if !self.records(entry).has_place(cursor.offset, cursor.size) {
             return Err(JournalFault::NoValue(cursor));
         }
         let at = (entry.first_byte + cursor.offset) as usize;
@@ -194,19 +243,15 @@ impl<'a, K: DecodedKey, V: Value> Journal<K, V> for SplitJournal<'a, K> {
     }
 
     fn size(&self, section: u64) -> u64 {
-        let used = self.used;
-        let entry = entry_of(&self.directory[0..used], section);
-        entry.rows * (K::WIDTH + 28) as u64
+        self.entry(section).rows * (K::WIDTH + 28) as u64
     }
 
     fn value_end(&self, section: u64) -> u64 {
-        let used = self.used;
-        entry_of(&self.directory[0..used], section).bytes
+        self.entry(section).bytes
     }
 
     fn highest(&self) -> Option<u64> {
-        let used = self.used;
-        highest(&self.directory[0..used])
+        self.sections().highest()
     }
 
     fn sync(&mut self, _first: u64, _last: u64) {}
