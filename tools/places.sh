@@ -2,7 +2,7 @@
 # The places in src/ that the points of docs/DESIGN-PASS.md speak of: `tools/places.sh` counts them by point,
 # `tools/places.sh N` prints those of point N. Run at the top of the repository.
 set -euo pipefail
-src() { find crates -path '*/src/*' -name '*.rt' | sort; }
+src() { git ls-files 'crates/*/src/*.rt'; }
 code() { src | grep -v '/tests\.rt$'; }
 find_in() { xargs grep -HnE "$1" | grep -vE '^[^:]*:[0-9]+:\s*//' || true; }
 places() {
@@ -14,7 +14,7 @@ places() {
     5) code | find_in '\bgood (self|journal|table)\.|\.good |ensures good|next_section: u64|let used = self\.used|Rising 0 \(numbers|IsSplitGood K|IsLogGood K|IsByteGood |IsStagedGood ' ;;
     6) code | find_in '^\s*(used|len|durable_len|entries|at): usize,|while low < high|text: \[u8' ;;
     7) code | find_in 'fn\(|\bdyn\b|match (step|which|kind)\b' ;;
-    8) find crates -path '*/proofs/*' -name '*.antt' | sort ;;
+    8) git ls-files 'crates/*/proofs/*.antt' ;;
   esac
 }
 if [ $# -gt 0 ]; then
@@ -23,5 +23,5 @@ else
   for point in 1 2 3 4 5 6 7 8; do
     printf 'point %s: %s\n' "$point" "$(places "$point" | wc -l)"
   done
-  printf 'lines of proofs: %s\n' "$(find crates -path '*/proofs/*' -name '*.antt' -print0 | xargs -0 cat | wc -l)"
+  printf 'lines of proofs: %s\n' "$(git ls-files 'crates/*/proofs/*.antt' | xargs cat | wc -l)"
 fi

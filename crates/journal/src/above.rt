@@ -6,7 +6,7 @@ ghost use Rattle.journal.specs.Rows.{apply, restore};
 
 use crate::fault::{Cursor, JournalFault};
 use crate::place::Place;
-use crate::record::Record;
+use crate::record::{Record, record_size};
 use crate::store::Journal;
 use codec::{Key, Value};
 
@@ -54,5 +54,5 @@ pub fn row_count<K: Key, V: Value, J: Journal<K, V>>(journal: &J, section: u64) 
     ensures counted { result * (K.Key.WIDTH + 28) ≡ size_answer (K.Key.WIDTH + 28) (J.means journal.now) section }
     ensures reached { (p : ℕ) → is_ok (get_answer (J.means journal.now) section p) ≡ nat_lt p result }
 {
-    journal.size(section) / (K::WIDTH as u64 + 28)
+    journal.size(section) / record_size::<K>() as u64
 }

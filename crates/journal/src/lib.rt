@@ -21,7 +21,7 @@ pub use fault::{Cursor, JournalFault};
 pub use limits::in_limits;
 pub use place::Place;
 pub use reader::LogReader;
-pub use record::{Record, write_record};
+pub use record::{Record, record_size, write_record};
 pub use row::RowView;
 pub use step::Step;
 pub use store::Journal;

@@ -14,6 +14,13 @@ pub struct Record<K> {
     pub value_size: u32,
 }
 
+// How many bytes the record of a key takes.
+pub fn record_size<K: Key>() -> usize
+    ensures { result ≡ K.Key.WIDTH + 28 }
+{
+    K::WIDTH + 28
+}
+
 // Fills `out` with the record of these parts.
 pub fn write_record<K: Key>(
     out: &mut [u8],

@@ -8,7 +8,9 @@ ghost use Rattle.log_journal.specs.Kept.{IsLogGood, IsLogGood-prop, log_end, ope
 
 use crate::walk::{Tally, cut_end, end, highest, record_at, tally_of, value_at};
 use codec::{DecodedKey, Key, Value, fill_part};
-use journal::{Cursor, Journal, JournalFault, Place, Record, in_limits, row_size, write_row};
+use journal::{
+    Cursor, Journal, JournalFault, Place, Record, in_limits, record_size, row_size, write_row,
+};
 use std::marker::PhantomData;
 
 // Its rows take the first `used` bytes.
@@ -48,7 +50,7 @@ impl<'a, K: DecodedKey> LogJournal<'a, K> {
         requires { tally.rows * (K.Key.WIDTH + 28) < 2 ^ 64 }
         ensures { result ≡ (has_space self.now (length (V.Value.encoding value.now)) && in_limits (K.Key.WIDTH + 28) tally.rows tally.bytes (length (stored_of (V.Value.encoding value.now)))) }
     {
-        let size = K::WIDTH as u64 + 28;
+        let size = record_size::<K>() as u64;
         let stored = value.encode_size() as u64 + 4;
         row_size::<K, V>(value) <= self.bytes.len() - self.used
             && in_limits(tally.rows, tally.bytes, size, stored)
@@ -79,7 +81,7 @@ impl<'a, K: DecodedKey> LogJournal<'a, K> {
     fn restored_end(&self, section: u64, bytes: u64) -> Result<usize, JournalFault>
         ensures { result ≡ answered (restore_fault (K.Key.WIDTH + 28) (held K.DecodedKey.decoding self.now) section bytes) (length (log_bytes (cut section_in section (bytes / (K.Key.WIDTH + 28)) (rows_in K.Key.WIDTH self.now.bytes.now)))) }
     {
-        let size = K::WIDTH as u64 + 28;
+        let size = record_size::<K>() as u64;
         let tally = tally_of::<K>(self.bytes, section);
         if tally.rows * size < bytes || bytes % size != 0 {
             return Err(JournalFault::Restore(section));
@@ -124,7 +126,7 @@ impl<'a, K: DecodedKey, V: Value> Journal<K, V> for LogJournal<'a, K> {
     }
 
     fn size(&self, section: u64) -> u64 {
-        tally_of::<K>(self.bytes, section).rows * (K::WIDTH as u64 + 28)
+        tally_of::<K>(self.bytes, section).rows * record_size::<K>() as u64
     }
 
     fn value_end(&self, section: u64) -> u64 {

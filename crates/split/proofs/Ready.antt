@@ -42,16 +42,16 @@ module _ {K : Type 0} {bytes : K → List ℕ} {w used : ℕ} {directory : List 
 
   -- ---- where they end
 
-  pub record Ends (rows width end : ℕ) : Type 0 where
-    pub row : rows * (width + 28) ≡ row_total ps * (w + 28)
+  pub record Ends (rows size end : ℕ) : Type 0 where
+    pub row : rows * size ≡ row_total ps * (w + 28)
     pub byte : end ≡ byte_total ps
-    pub within : (rows * (width + 28) ≤ length records) × (end ≤ length values)
+    pub within : (rows * size ≤ length records) × (end ≤ length values)
 
-  pub ends : {ds : List Section} {rows width end : ℕ} → ds ≡ directory_of 0 0 ps → rows ≡ end_row 0 ds → width ≡ w → end ≡ end_byte 0 ds → Ends rows width end
-  ends {rows = rows} {width = width} e r wide b =
+  pub ends : {ds : List Section} {rows size end : ℕ} → ds ≡ directory_of 0 0 ps → rows ≡ end_row 0 ds → size ≡ w + 28 → end ≡ end_byte 0 ds → Ends rows size end
+  ends {rows = rows} {size = size} e r long b =
       let count = r ∙ ap (end_row 0) e ∙ end_row_is 0 0 ps ∙ zero-add (row_total ps) in
       let sum = b ∙ ap (end_byte 0) e ∙ end_byte_is 0 0 ps ∙ zero-add (byte_total ps) in
-      let all : rows * (width + 28) ≡ row_total ps * (w + 28) = λ i. count i * (wide i + 28) in
+      let all : rows * size ≡ row_total ps * (w + 28) = λ i. count i * long i in
       record { row = all; byte = sum; within = (omega (arith, all, rows_stand), omega (arith, sum, bytes_stand)) }
 
   -- ---- an entry

@@ -12,8 +12,8 @@ use crate::section::Section;
 use crate::sorted::Sorted;
 use codec::{DecodedKey, Key, Value};
 use journal::{
-    Cursor, Journal, JournalFault, Place, Record, in_limits, read_stored, write_record,
-    write_stored,
+    Cursor, Journal, JournalFault, Place, Record, in_limits, read_stored, record_size,
+    write_record, write_stored,
 };
 use std::marker::PhantomData;
 
@@ -103,7 +103,7 @@ impl<'a, K: DecodedKey> SplitJournal<'a, K> {
         ensures within { (result.0 ≤ length self.now.records.now) × (result.1 ≤ length self.now.values.now) }
     {
         let (rows, bytes) = self.sections().end();
-        (rows as usize * (K::WIDTH + 28), bytes as usize)
+        (rows as usize * record_size::<K>(), bytes as usize)
     }
 
     // Does a row with a value of so many bytes fit in the section of an entry?
@@ -113,7 +113,7 @@ impl<'a, K: DecodedKey> SplitJournal<'a, K> {
         ensures { result ≡ (space self.now entry.number len && in_bounds (K.Key.WIDTH + 28) (meaning self.now) entry.number (len + 4)) }
     {
         let (row, byte) = self.end();
-        let record = K::WIDTH + 28;
+        let record = record_size::<K>();
         let stored = len + 4;
         record <= self.records.len() - row
             && stored <= self.values.len() - byte
@@ -162,7 +162,7 @@ impl<'a, K: DecodedKey> SplitJournal<'a, K> {
         ensures { result ≡ cut_answer self.now section bytes }
     {
         let entry = self.entry(section);
-        let size = (K::WIDTH + 28) as u64;
+        let size = record_size::<K>() as u64;
         if bytes > entry.rows * size || bytes % size != 0 {
             return Err(JournalFault::Restore(section));
         }
@@ -199,7 +199,7 @@ impl<'a, K: DecodedKey, V: Value> Journal<K, V> for SplitJournal<'a, K> {
         value: &V,
     ) -> Result<(u64, u64, u32), JournalFault> {
         let len = value.encode_size();
-        let size = K::WIDTH + 28;
+        let size = record_size::<K>();
         let stored = len + 4;
         let Spot {
             at,
@@ -243,7 +243,7 @@ impl<'a, K: DecodedKey, V: Value> Journal<K, V> for SplitJournal<'a, K> {
     }
 
     fn size(&self, section: u64) -> u64 {
-        self.entry(section).rows * (K::WIDTH + 28) as u64
+        self.entry(section).rows * record_size::<K>() as u64
     }
 
     fn value_end(&self, section: u64) -> u64 {

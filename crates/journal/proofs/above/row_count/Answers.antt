@@ -6,7 +6,7 @@ pub returns : goal.returns
 returns g c =
     let j = g.J.Journal.means c.args.journal.now in
     let s = c.args.section in
-    let rows : c.size.result / (c.WIDTH.result + 28) ≡ length (j.rows s) = ap (λ (w : ℕ). c.size.result / (w + 28)) c.WIDTH.ensures ∙ whole_count (g.K.Key.WIDTH + 28) (omega arith) j s c.size.result c.size.ensures in
+    let rows : c.size.result / c.record_size.result ≡ length (j.rows s) = ap (λ (n : ℕ). c.size.result / n) c.record_size.ensures ∙ whole_count (g.K.Key.WIDTH + 28) (omega arith) j s c.size.result c.size.ensures in
     record {
       rows = rows;
       counted = ap (λ (n : ℕ). n * (g.K.Key.WIDTH + 28)) rows;

@@ -8,7 +8,7 @@ pub in_limits-requires-clause-counted : goal.in_limits-requires-clause-counted
 in_limits-requires-clause-counted g c =
     let key = kind g.met.K.Key.sized g.met.K.Key.octets g.met.K.Key.same g.met.K.DecodedKey.decoded in
     let k = known_own key c.args.self.now.ok c.args.entry c.requires.own in
-    rw c.WIDTH-record.ensures (omega arith)
+    rw c.record_size-record.ensures (omega arith)
 
 pub returns-then-self : goal.returns-then-self
 returns-then-self g c =
