@@ -178,20 +178,19 @@ fn records(rt: HostRuntime) {
     }
     .encode(&mut room);
     let cursor = Cursor::decode(&room);
-    assert!(rt; cursor.section == 1 && cursor.offset == 2 && cursor.size == 3);
+    assert_eq!(rt; (cursor.section, cursor.offset, cursor.size), (1, 2, 3));
 }
 
-// The number of what stops a reading, 0 where nothing does.
-fn stopped(stored: &[u8]) -> u8 {
+// The number of what stops a reading, or none.
+fn stopped(stored: &[u8]) -> Option<u8> {
     let place = Cursor {
         section: 0,
         offset: 0,
         size: 0,
     };
-    match read_stored::<Window>(stored, place) {
-        Ok(_) => 0,
-        Err(fault) => fault.number(),
-    }
+    read_stored::<Window>(stored, place)
+        .err()
+        .map(|fault| fault.number())
 }
 
 // A stored window of 20 bytes, cut at every length and with a byte flipped at every offset.
@@ -199,7 +198,7 @@ fn stopped(stored: &[u8]) -> u8 {
 fn stored(rt: HostRuntime) {
     let mut bytes = [0u8; 20];
     write_stored(&mut bytes, &Window::new(5, 9));
-    assert_eq!(rt; stopped(&bytes), 0);
+    assert_eq!(rt; stopped(&bytes), None);
     for len in 0..20usize {
         // Its first four bytes are zero, which is the check of no bytes.
         let number = if len < 4 {
@@ -209,12 +208,12 @@ fn stored(rt: HostRuntime) {
         } else {
             17
         };
-        assert_eq!(rt; stopped(&bytes[0..len]), number);
+        assert_eq!(rt; stopped(&bytes[0..len]), Some(number));
     }
     for at in 0..20usize {
         let mut other = bytes;
         other[at] ^= 1;
-        assert_eq!(rt; stopped(&other), 17);
+        assert_eq!(rt; stopped(&other), Some(17));
     }
-    assert_eq!(rt; stopped(&[0u8; 4]), 18);
+    assert_eq!(rt; stopped(&[0u8; 4]), Some(18));
 }

@@ -20,12 +20,9 @@ fn at(section: u64, position: u64) -> Place {
     Place { section, position }
 }
 
-// The fault of a call, by its number; 0 where there is none.
-fn fault<T: Drop>(answer: Result<T, JournalFault>) -> u8 {
-    match answer {
-        Ok(_) => 0,
-        Err(fault) => fault.number(),
-    }
+// What a call answers, a refusal by its number.
+fn numbered<T: Drop>(answer: Result<T, JournalFault>) -> Result<T, u8> {
+    answer.map_err(|fault| fault.number())
 }
 
 // The highest section, and the sizes of section 3.
@@ -58,10 +55,22 @@ fn appended(rt: HostRuntime) {
     let value = Window::new(5, 9);
     assert_eq!(rt; sizes(&journal), (None, 0, 0));
     assert!(rt; journal.fits(3, &value));
-    assert!(rt; matches!(journal.append(3, &key, at(1, 2), &value), Ok((0, 0, 20))));
-    assert_eq!(rt; fault(journal.append(2, &key, at(1, 2), &value)), 13);
-    assert!(rt; matches!(journal.append(3, &key, at(3, 0), &value), Ok((1, 20, 20))));
-    assert_eq!(rt; fault(journal.append(3, &key, at(1, 2), &value)), 10);
+    assert_eq!(rt;
+        numbered(journal.append(3, &key, at(1, 2), &value)),
+        Ok((0, 0, 20))
+    );
+    assert_eq!(rt;
+        numbered(journal.append(2, &key, at(1, 2), &value)),
+        Err(13)
+    );
+    assert_eq!(rt;
+        numbered(journal.append(3, &key, at(3, 0), &value)),
+        Ok((1, 20, 20))
+    );
+    assert_eq!(rt;
+        numbered(journal.append(3, &key, at(1, 2), &value)),
+        Err(10)
+    );
     assert_eq!(rt; sizes(&journal), (Some(3), 72, 40));
 }
 
@@ -75,10 +84,7 @@ fn found<J: Journal<Serial, Window>>(journal: &J, position: u64) -> Option<(u64,
         offset: record.value_offset,
         size: record.value_size,
     };
-    let same = match journal.value(place) {
-        Ok(value) => value.first() == 5 && value.end() == 9,
-        Err(_) => false,
-    };
+    let same = journal.value(place) == Ok(Window::new(5, 9));
     Some((
         record.next.section,
         record.value_offset,
@@ -92,22 +98,22 @@ fn restored(rt: HostRuntime) {
     let mut journal = LogJournal::<Serial>::open(&mut bytes);
     let key = Serial { value: 7 };
     let value = Window::new(5, 9);
-    assert_eq!(rt; fault(journal.append(3, &key, at(1, 2), &value)), 0);
-    assert_eq!(rt; fault(journal.append(3, &key, at(3, 0), &value)), 0);
+    assert!(rt; journal.append(3, &key, at(1, 2), &value).is_ok());
+    assert!(rt; journal.append(3, &key, at(3, 0), &value).is_ok());
     assert_eq!(rt; found(&journal, 1), Some((3, 20, true)));
     assert_eq!(rt; found(&journal, 2), None);
-    assert_eq!(rt; cut_back(&mut journal), (7, 7, 0));
+    assert_eq!(rt; cut_back(&mut journal), [Err(7), Err(7), Ok(())]);
     assert_eq!(rt; found(&journal, 0), Some((1, 0, true)));
     assert_eq!(rt; found(&journal, 1), None);
 }
 
 // Cuts section 3 back to one row of 36 bytes, and says what half a row, three rows and one were refused with.
-fn cut_back<J: Journal<Serial, Window>>(journal: &mut J) -> (u8, u8, u8) {
-    (
-        fault(journal.restore(3, 18)),
-        fault(journal.restore(3, 108)),
-        fault(journal.restore(3, 36)),
-    )
+fn cut_back<J: Journal<Serial, Window>>(journal: &mut J) -> [Result<(), u8>; 3] {
+    [
+        numbered(journal.restore(3, 18)),
+        numbered(journal.restore(3, 108)),
+        numbered(journal.restore(3, 36)),
+    ]
 }
 
 #[test]
