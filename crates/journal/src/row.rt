@@ -9,8 +9,8 @@ pub struct RowView<'a> {
     pub key: &'a [u8],
     pub next: Place,
     pub value: &'a [u8],
-    ghost key_most: { length key.now ≤ 64 },
-    ghost value_most: { length value.now ≤ 4096 },
+    pub ghost key_most: { length key.now ≤ 64 },
+    pub ghost value_most: { length value.now ≤ 4096 },
 }
 
 impl<'a> RowView<'a> {

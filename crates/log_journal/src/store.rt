@@ -20,7 +20,7 @@ pub struct LogJournal<'a, K: Key> {
     bytes: &'a mut [u8],
     used: usize,
     kind: PhantomData<K>,
-    ghost ok: { IsLogGood K.Key.WIDTH bytes.now used } by { IsLogGood-prop K.Key.WIDTH bytes.now used },
+    pub ghost ok: { IsLogGood K.Key.WIDTH bytes.now used } by { IsLogGood-prop K.Key.WIDTH bytes.now used },
 }
 
 impl<'a, K: Key> LogJournal<'a, K> {

@@ -26,7 +26,7 @@ pub struct SplitJournal<'a, K: DecodedKey> {
     used: usize,
     kind: PhantomData<K>,
     // The memory holds sections in good order.
-    ghost ok: { IsSplitGood K.DecodedKey.decoding K.Key.WIDTH used directory.now records.now values.now K.Key.bytes } by { Laid-prop },
+    pub ghost ok: { IsSplitGood K.DecodedKey.decoding K.Key.WIDTH used directory.now records.now values.now K.Key.bytes } by { Laid-prop },
 }
 
 impl<'a, K: DecodedKey> SplitJournal<'a, K> {

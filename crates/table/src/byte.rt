@@ -12,7 +12,7 @@ use codec::fill_part;
 pub struct ByteTable<'a> {
     bytes: &'a mut [u8],
     entries: usize,
-    ghost ok: { IsByteGood bytes.now entries },
+    pub ghost ok: { IsByteGood bytes.now entries },
 }
 
 impl<'a> ByteTable<'a> {

@@ -14,7 +14,7 @@ pub struct StagedTable<'a> {
     durable: &'a mut [Entry],
     len: usize,
     durable_len: usize,
-    ghost ok: { IsStagedGood working.now durable.now len durable_len },
+    pub ghost ok: { IsStagedGood working.now durable.now len durable_len },
 }
 
 impl<'a> StagedTable<'a> {
