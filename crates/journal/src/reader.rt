@@ -10,7 +10,7 @@ use codec::{Key, Number};
 use crc32c::checksum;
 use std::marker::PhantomData;
 
-// Stands over a log of keys of one kind, in front of the next row.
+// Stands over a log of keys of one kind, in front of the next row, which is at `at`: each step says where it stands.
 #[derive(Drop)]
 pub struct LogReader<'a, K> {
     log: &'a [u8],

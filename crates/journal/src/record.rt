@@ -21,7 +21,7 @@ pub fn record_size<K: Key>() -> usize
     K::WIDTH + 28
 }
 
-// Fills `out` with the record of these parts.
+// Fills `out` with the record of these parts. `Record::encode` calls it; a key that is only borrowed stands in no record.
 pub fn write_record<K: Key>(
     out: &mut [u8],
     key: &K,

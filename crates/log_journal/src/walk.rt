@@ -90,7 +90,7 @@ pub fn value_at<K: DecodedKey, V: Value>(log: &[u8], cursor: Cursor) -> Result<V
     Err(JournalFault::NoValue(cursor))
 }
 
-// The value of bytes whose check is right.
+// The value of bytes whose check is right. Not `read_stored`: the check stands apart, and the reader has compared it.
 fn read_value<V: Value>(value: &[u8], place: Cursor) -> Result<V, JournalFault>
     ensures { result ≡ value_there V.Value.decoding place (Some (stored_of value.now)) }
 {

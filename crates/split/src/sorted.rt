@@ -14,7 +14,7 @@ pub trait Sorted {
 
     ghost rise: { (s : Self) → Rising 0 (numbers s) };
 
-    // How many stand before a bound, by halving.
+    // How many stand before a bound, by halving. Not `partition_point`: a section's records are bytes, no slice of items.
     final fn before(&self, bound: u64) -> usize
         ensures { result ≡ before bound (numbers self.now) }
     {
