@@ -20,6 +20,7 @@ pub trait Number: Sized {
         ensures back { be width (value result) ≡ from.now };
 }
 
+// The three are alike word for word: an impl is not written by a macro here.
 impl Number for u8 {
     ghost width = { 1 };
 
@@ -67,6 +68,7 @@ pub fn fill_part<T: Copy>(items: &mut [T], from: usize, to: usize, item: T)
     requires { (from ≤ to) × (to ≤ length items.old) }
     ensures { items.new ≡ take from items.old ++ (replicate (to - from) item ++ drop to items.old) }
 {
+    // Not `fill`: it asks that a clone cannot fail, which `Copy` does not say.
     for slot in &mut items[from..to] {
         *slot = item;
     }

@@ -6,7 +6,7 @@ ghost use Rattle.std.proofs.Common.{rules, arith};
 
 use crate::key::Key;
 
-#[derive(Clone, Copy)]
+#[derive(Clone, Copy, PartialEq, Eq)]
 pub struct Fingerprint {
     pub digest: [u8; 32],
     ghost ok: { (length digest ≡ 32) × (all_bytes digest ≡ true) },
@@ -36,8 +36,8 @@ impl Key for Fingerprint {
     }
 
     fn decode(from: &[u8]) -> Fingerprint {
-        let mut digest = [0u8; 32];
-        digest.copy_from_slice(from);
-        Fingerprint { digest }
+        Fingerprint {
+            digest: from.try_into().unwrap(),
+        }
     }
 }

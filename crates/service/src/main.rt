@@ -47,9 +47,7 @@ fn append(log: &mut [u8], at: usize, term: &Term) -> Option<usize>
     ensures answer { result ≡ append_answer log.old at term.now }
     ensures after { log.new ≡ append_after log.old at term.now result }
 {
-    if Window::check(term.first, term.end).is_err() {
-        return None;
-    }
+    Window::check(term.first, term.end).ok()?;
     let window = Window::new(term.first, term.end);
     let size = row_size::<Serial, Window>(&window);
     if at > log.len() || log.len() - at < size {

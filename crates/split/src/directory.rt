@@ -53,9 +53,7 @@ impl<'a> Directory<'a> {
     pub fn is_below(&self, section: u64) -> bool
         ensures { result ≡ nat_lt (suc section) (top 0 self.now.sections.now) }
     {
-        self.sections
-            .last()
-            .is_some_and(|last| section < last.number)
+        self.highest().is_some_and(|last| section < last)
     }
 
     // A section's entry; one without rows, where its rows would stand, if it has none.

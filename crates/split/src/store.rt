@@ -17,7 +17,8 @@ use journal::{
 };
 use std::marker::PhantomData;
 
-// Records, stored values and a directory of sections in lent memory; `used` entries of the directory stand.
+// Records, stored values and a directory of sections in lent memory; `used` entries of the directory stand. No heap: each
+// memory is of a fixed size, so the count stands beside it.
 #[derive(Drop)]
 pub struct SplitJournal<'a, K: DecodedKey> {
     records: &'a mut [u8],

@@ -4,7 +4,7 @@ ghost use Rattle.table.specs.Lent.{IsByteGood, byte_means, byte_most, making_che
 
 use crate::entry::Entry;
 use crate::fault::TableFault;
-use crate::store::{Table, find_place};
+use crate::store::{Table, check_count, find_place};
 use codec::fill_part;
 
 // No heap: the memory is lent and of a fixed size, so the count of entries stands beside it.
@@ -20,11 +20,7 @@ impl<'a> ByteTable<'a> {
     pub fn check(bytes: &[u8], entries: u64) -> Result<(), TableFault>
         ensures { result ≡ making_check (byte_most bytes.now) entries }
     {
-        if entries <= (bytes.len() / 29) as u64 {
-            Ok(())
-        } else {
-            Err(TableFault::TooMany)
-        }
+        check_count(entries, (bytes.len() / 29) as u64)
     }
 
     // The table of the first entries that lie in the bytes.
@@ -67,9 +63,7 @@ impl<'a> Table for ByteTable<'a> {
     }
 
     fn resize(&mut self, count: u64) -> Result<(), TableFault> {
-        if count > self.most() {
-            return Err(TableFault::TooMany);
-        }
+        check_count(count, self.most())?;
         let count = count as usize;
         let entries = self.entries;
         if count > entries {

@@ -4,7 +4,7 @@ ghost use Rattle.table.specs.Lent.{making_check, IsStagedGood, staged_means, sta
 
 use crate::entry::{EMPTY, Entry};
 use crate::fault::TableFault;
-use crate::store::{Table, find_place};
+use crate::store::{Table, check_count, find_place};
 use codec::fill_part;
 
 // No heap: both tables are lent and of a fixed size, so the counts of entries stand beside them.
@@ -22,11 +22,7 @@ impl<'a> StagedTable<'a> {
     pub fn check(working: &[Entry], durable: &[Entry], entries: u64) -> Result<(), TableFault>
         ensures { result ≡ making_check (staged_most working.now durable.now) entries }
     {
-        if entries <= working.len().min(durable.len()) as u64 {
-            Ok(())
-        } else {
-            Err(TableFault::TooMany)
-        }
+        check_count(entries, working.len().min(durable.len()) as u64)
     }
 
     // The table of the first durable entries, which are copied to the working ones.
@@ -75,9 +71,7 @@ impl<'a> Table for StagedTable<'a> {
     }
 
     fn resize(&mut self, count: u64) -> Result<(), TableFault> {
-        if count > self.most() {
-            return Err(TableFault::TooMany);
-        }
+        check_count(count, self.most())?;
         let count = count as usize;
         let len = self.len;
         if count > len {

@@ -1,5 +1,6 @@
 // What a table is, and reading a pair of any.
 ghost use Rattle.std.specs.Prelude.{◌≡◌, ℕ, ◌≤◌, List, length};
+ghost use Rattle.table.specs.Lent.{making_check};
 ghost use Rattle.table.specs.Store.{TableMeaning, apply, pair_answer, place_answer, read_answer, resize_after, resize_answer, sync, write_after, write_answer};
 
 use crate::entry::Entry;
@@ -47,6 +48,17 @@ pub(crate) fn find_place(index: u64, len: usize) -> Result<usize, TableFault>
         Ok(index as usize)
     } else {
         Err(TableFault::PastEnd(index))
+    }
+}
+
+// May so many entries stand in a table of such a most? Refuses with 8.
+pub(crate) fn check_count(count: u64, most: u64) -> Result<(), TableFault>
+    ensures { result ≡ making_check most count }
+{
+    if count <= most {
+        Ok(())
+    } else {
+        Err(TableFault::TooMany)
     }
 }
 

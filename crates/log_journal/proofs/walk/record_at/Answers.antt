@@ -4,7 +4,7 @@ use Rattle.journal.specs.Left.{rows_left}
 use Rattle.journal.specs.Rows.{stored_bytes}
 use Rattle.journal.proofs.StoredBack.{length_stored}
 use Rattle.log_journal.specs.Kept.{rows_in}
-use Rattle.log_journal.proofs.Sections.{of_section, record_from, record_here, record_is, record_on, row_else, row_here}
+use Rattle.log_journal.proofs.Sections.{of_section, record_from, record_here, record_is, record_on, row_here}
 use Rattle.log_journal.proofs.Split.{KeySound, rows_keys}
 use Rattle.log_journal.proofs.Walks.{octets, section_within}
 use Rattle.log_journal.proofs.walk.record_at.Goals as goal
@@ -21,15 +21,6 @@ loop-row-init g c =
       keys = subst (AllByRecursion (KeySound w)) (sym start) (rows_keys w log (octets log c.type_inv.log));
       bytes = search rules;
       found = ap (λ rs. record_from 0 (of_section d s rs) p) start ∙ record_is (of_section d s (rows_in w log)) p;
-    }
-
-pub loop-row-preserved-then-row-place : goal.loop-row-preserved-then-row-place
-loop-row-preserved-then-row-place g c =
-    let else = row_else g.K.DecodedKey.decoding c.in-Some.ensures.steps c.if-row-place.true in
-    record {
-      keys = (subst (AllByRecursion (KeySound g.K.Key.WIDTH)) c.in-Some.ensures.steps c.loop-row.invariant.keys).1;
-      bytes = omega (arith, ap stored_bytes else);
-      found = ap (λ rs. record_from c.loop-row.offset rs c.loop-row.left) (sym else) ∙ c.loop-row.invariant.found;
     }
 
 pub returns-then-left-eq0 : goal.returns-then-left-eq0
