@@ -1,6 +1,7 @@
 -- One turn of a reader: the row that it shows is the next good one, and where it shows none there is none.
 use Rattle.std.proofs.Common.{◌≡◌, ℕ, ◌+◌, List, [], ◌∷◌, length, drop, arith}
 use Rattle.std.proofs.lemmas.List.{drop-drop}
+use Rattle.codec.specs.declared.key.Key.{Ghosts}
 use Rattle.journal.specs.declared.reader.LogReader.{LogReader}
 use Rattle.journal.specs.declared.row.RowView.{RowView}
 use Rattle.journal.specs.declared.step.Step.{Step}
@@ -12,8 +13,8 @@ use Rattle.journal.proofs.GoodRows.{rows_shown}
 look_stands : (w last at : ℕ) (bs : List ℕ) → stands (look w last at bs) ≡ at
 look_stands w last at bs = grind arith
 
-module _ {K : Type 0} (w : ℕ) (was is : LogReader K) (log : is.log.now ≡ was.log.now) where
-  pub row_left : (a : ℕ) (v : RowView) → row a (row_shown v) ≡ look w was.last was.at (drop was.at was.log.now) → is.at ≡ a + row_len w (length v.value.now) → is.last ≡ v.section →
+module _ {K : Type 0} {k : Ghosts K} (w : ℕ) (was is : LogReader K) (log : is.log.now ≡ was.log.now) where
+  pub row_left : (a : ℕ) (v : RowView K k) → row a (row_shown v) ≡ look w was.last was.at (drop was.at was.log.now) → is.at ≡ a + row_len w (length v.value.now) → is.last ≡ v.section →
       rows_left w was ≡ row_shown v ∷ rows_left w is
   row_left a v shows at last =
       let first = rows_shown w was.last was.at (drop was.at was.log.now) in
@@ -21,7 +22,7 @@ module _ {K : Type 0} (w : ℕ) (was is : LogReader K) (log : is.log.now ≡ was
       let behind = drop-drop (row_len w (length v.value.now)) was.at was.log.now in
       grind arith
 
-  pub none_left : (s : Step) → ((a : ℕ) (v : RowView) → s ≡ Row a v → ⊥) → shown s ≡ look w was.last was.at (drop was.at was.log.now) → is.at ≡ at_after w (shown s) → is.last ≡ last_after was.last (shown s) →
+  pub none_left : (s : Step (RowView K k)) → ((a : ℕ) (v : RowView K k) → s ≡ Row a v → ⊥) → shown s ≡ look w was.last was.at (drop was.at was.log.now) → is.at ≡ at_after w (shown s) → is.last ≡ last_after was.last (shown s) →
       (rows_left w was ≡ []) × (rows_left w is ≡ [])
   none_left s other shows at last =
       let first = rows_shown w was.last was.at (drop was.at was.log.now) in

@@ -38,14 +38,14 @@ impl<'a, K: Key> LogReader<'a, K> {
         }
     }
 
-    pub fn step(&mut self) -> Step<'a>
+    pub fn step(&mut self) -> Step<RowView<'a, K>>
         ensures shown { shown result ≡ look K.Key.WIDTH self.old.last self.old.at (drop self.old.at self.old.log.now) }
         ensures key { KeyWide K.Key.WIDTH (shown result) }
         ensures at { self.new.at ≡ at_after K.Key.WIDTH (shown result) }
         ensures last { self.new.last ≡ last_after self.old.last (shown result) }
         ensures log { self.new.log.now ≡ self.old.log.now }
     {
-        let step = look(&self.log[self.at..], K::WIDTH, self.last, self.at);
+        let step = look::<K>(&self.log[self.at..], self.last, self.at);
         if let Step::Row { row, .. } = &step {
             self.at += row.size();
             self.last = row.section;
@@ -59,13 +59,13 @@ impl<'a, K: Key> Iterator for LogReader<'a, K> {
     ghost use Rattle.std.specs.Iterator.{YieldsFirstBy, item_count};
     ghost use Rattle.journal.specs.Left.{rows_left};
 
-    type Item = RowView<'a>;
+    type Item = RowView<'a, K>;
 
     ghost next_gives = { YieldsFirstBy row_shown (rows_left K.Key.WIDTH) };
 
     ghost remaining = { item_count (rows_left K.Key.WIDTH) };
 
-    fn next(&mut self) -> Option<RowView<'a>> {
+    fn next(&mut self) -> Option<RowView<'a, K>> {
         match self.step() {
             Step::Row { row, .. } => Some(row),
             _ => None,
@@ -74,29 +74,26 @@ impl<'a, K: Key> Iterator for LogReader<'a, K> {
 }
 
 // Reads the front of `rest`, which stands at `at`.
-fn look<'a>(rest: &'a [u8], width: usize, last: u64, at: usize) -> Step<'a>
-    requires { width ≤ 64 }
-    ensures shown { shown result ≡ look width last at rest.now }
-    ensures key { KeyWide width (shown result) }
+fn look<'a, K: Key>(rest: &'a [u8], last: u64, at: usize) -> Step<RowView<'a, K>>
+    ensures shown { shown result ≡ look K.Key.WIDTH last at rest.now }
     ensures stands { stands (shown result) ≡ at }
-    ensures within { at_after width (shown result) ≤ at + length rest.now }
+    ensures within { at_after K.Key.WIDTH (shown result) ≤ at + length rest.now }
 {
     if rest.len() < 2 || rest[0] == 0 && rest[1] == 0 {
         return Step::Blank { at };
     }
-    match good_row(rest, width, last) {
+    match good_row(rest, last) {
         Some(row) => Step::Row { at, row },
         None => Step::Spoiled { at },
     }
 }
 
 // The good row that `rest` begins with, if it does.
-fn good_row<'a>(rest: &'a [u8], width: usize, last: u64) -> Option<RowView<'a>>
-    requires { width ≤ 64 }
-    ensures row { option_map row_shown result ≡ cond (is_row width last rest.now) (Some (row_of width rest.now)) None }
-    ensures key { IfSome result (λ v. length v.key.now ≡ width) }
-    ensures within { IfSome result (λ v. row_len width (length v.value.now) ≤ length rest.now) }
+fn good_row<'a, K: Key>(rest: &'a [u8], last: u64) -> Option<RowView<'a, K>>
+    ensures row { option_map row_shown result ≡ cond (is_row K.Key.WIDTH last rest.now) (Some (row_of K.Key.WIDTH rest.now)) None }
+    ensures within { IfSome result (λ v. row_len K.Key.WIDTH (length v.value.now) ≤ length rest.now) }
 {
+    let width = K::WIDTH;
     if rest.len() < 34 + width || rest[0] != 0x46 || rest[1] != 0x5a {
         return None;
     }
@@ -118,5 +115,6 @@ fn good_row<'a>(rest: &'a [u8], width: usize, last: u64) -> Option<RowView<'a>>
             position: u64::take(&rest[18 + width..26 + width]),
         },
         value,
+        kind: PhantomData,
     })
 }

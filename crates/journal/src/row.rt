@@ -1,19 +1,23 @@
-// A row as it stands in a log. Key and value are parts of the log: of at most 64 bytes the one, of at most 4,096 the other.
-ghost use Rattle.std.specs.Prelude.{◌≡◌, ◌≤◌, length};
+// A row of a kind of keys as it stands in a log. Key and value are parts of the log: of its kind's width the one, of at
+// most 4,096 bytes the other.
+ghost use Rattle.std.specs.Prelude.{◌≡◌, ◌≤◌, ⊤, length};
 
 use crate::place::Place;
+use codec::Key;
+use std::alloc::AllocError;
+use std::marker::PhantomData;
 
-#[derive(Clone, Copy)]
-pub struct RowView<'a> {
+pub struct RowView<'a, K: Key> {
     pub section: u64,
     pub key: &'a [u8],
     pub next: Place,
     pub value: &'a [u8],
-    pub ghost key_most: { length key.now ≤ 64 },
+    pub kind: PhantomData<K>,
+    pub ghost key_wide: { length key.now ≡ K.Key.WIDTH },
     pub ghost value_most: { length value.now ≤ 4096 },
 }
 
-impl<'a> RowView<'a> {
+impl<'a, K: Key> RowView<'a, K> {
     ghost use Rattle.journal.specs.Log.{row_len};
 
     // How many bytes the row takes.
@@ -23,3 +27,15 @@ impl<'a> RowView<'a> {
         34 + self.key.len() + self.value.len()
     }
 }
+
+impl<'a, K: Key> Clone for RowView<'a, K> {
+    ghost is_clone = { λ x y. y ≡ x };
+
+    ghost is_infallible = { λ _. ⊤ };
+
+    fn clone(&self) -> Result<Self, AllocError> {
+        Ok(*self)
+    }
+}
+
+impl<'a, K: Key> Copy for RowView<'a, K> {}

@@ -17,7 +17,7 @@ fn one_row() -> [u8; 58] {
     log
 }
 
-fn first_step(log: &[u8]) -> Step<'_> {
+fn first_step(log: &[u8]) -> Step<RowView<'_, Serial>> {
     let mut reader = LogReader::<Serial>::new(log);
     reader.step()
 }

@@ -1,6 +1,6 @@
 -- Bytes are the bytes of their good rows, and what stands behind them.
 use Rattle.std.proofs.Common.{◌≡◌, ℕ, zero, suc, ◌+◌, ◌-◌, ◌^◌, ◌<◌, ◌≤◌, true, List, [], ◌∷◌, ◌++◌, length, get_or, take, drop, sym, refl, ap, ◌∙◌, subst, append_assoc, arith, length-drop, take-append-drop}
-use Rattle.std.specs.List.{AllByRecursion, between}
+use Rattle.std.specs.List.{between}
 use Rattle.std.specs.Int.Digits.{AllBelowBase}
 use Rattle.std.proofs.lemmas.List.{drop_at, length-take-le}
 use Rattle.std.proofs.lemmas.Bool.{cond_both}
@@ -92,20 +92,15 @@ module _ (w last : ℕ) (bs : List ℕ) (u : AllBelowBase 256 bs) (good : is_row
         value_bytes = part_under bs u (30 + w) (30 + w + value_length w bs) (value_length w bs) refl (omega arith);
       }
 
--- a key of its width, and of bytes
-abbrev pub KeySound : ℕ → LogRow → Type 0
-KeySound w r = (length r.key ≡ w) × AllBelowBase 256 r.key
-
 -- some rows at the front of bytes, and what stands behind them
 record Fronted (w last : ℕ) (bs : List ℕ) (rs : List LogRow) : Type 0 where
   rest : List ℕ
   split : bs ≡ log_bytes rs ++ rest
   rising : Rising w last rs
-  keys : AllByRecursion (KeySound w) rs
 
 fronted : (f w last : ℕ) (bs : List ℕ) → AllBelowBase 256 bs → Fronted w last bs (log_rows f w last bs)
 unfolding log_rows
-fronted zero w last bs u = record { rest = bs; split = refl; rising = tt; keys = tt }
+fronted zero w last bs u = record { rest = bs; split = refl; rising = tt }
 fronted (suc f) w last bs u =
     let n = row_len w (length (value_of w bs)) in
     let b = drop n bs in
@@ -116,9 +111,8 @@ fronted (suc f) w last bs u =
       rest = behind.rest;
       split = begins w last bs u good ∙ ap (λ xs. row_bytes (row_of w bs) ++ xs) behind.split ∙ sym (append_assoc (row_bytes (row_of w bs)) (log_bytes (log_rows f w (section_of bs) b)) behind.rest);
       rising = (row_writable w last bs u good, not_below w last bs u good, behind.rising);
-      keys = (((row_writable w last bs u good).key_width, under_take _ _ (under_drop 10 bs u)), behind.keys);
     })
-    (λ none. record { rest = bs; split = refl; rising = tt; keys = tt })
+    (λ none. record { rest = bs; split = refl; rising = tt })
 
 -- so it is with all the good rows
 module _ (w : ℕ) (bs : List ℕ) (u : AllBelowBase 256 bs) where
@@ -130,6 +124,3 @@ module _ (w : ℕ) (bs : List ℕ) (u : AllBelowBase 256 bs) where
 
   pub rows_rising : Rising w 0 (rows_in w bs)
   rows_rising = (fronted (length bs) w 0 bs u).rising
-
-  pub rows_keys : AllByRecursion (KeySound w) (rows_in w bs)
-  rows_keys = (fronted (length bs) w 0 bs u).keys

@@ -78,34 +78,27 @@ fn lay_out(rt: &impl Print, log: &mut [u8], terms: &[Term]) -> anyhow::Result<()
 
 fn read_back(rt: &impl Print, log: &[u8]) -> anyhow::Result<()> {
     let mut reader = LogReader::<Serial>::new(log);
-    // Counted, and not over the reader's rows: that a key has its kind's width, which `decode` asks, comes with `step`.
-    for _ in 0..=log.len() {
-        match reader.step() {
-            Step::Row { at, row } => {
-                let serial: Serial = <Serial as Key>::decode(row.key);
-                let Some(window) = <Window as Value>::decode(row.value) else {
-                    return Err(anyhow!("a value is no window"));
-                };
-                let term = Term {
-                    section: row.section,
-                    serial: serial.value,
-                    first: window.first(),
-                    end: window.end(),
-                    next: row.next,
-                };
-                println!(rt; "  row at {at}: {term}")?;
-            }
-            Step::Blank { at } => {
-                println!(rt; "  blank from {at} on")?;
-                return Ok(());
-            }
-            Step::Spoiled { at } => {
-                println!(rt; "  spoiled tail from {at} on")?;
-                return Ok(());
-            }
-        }
+    let mut at = 0usize;
+    for row in reader.by_ref() {
+        let serial: Serial = <Serial as Key>::decode(row.key);
+        let Some(window) = <Window as Value>::decode(row.value) else {
+            return Err(anyhow!("a value is no window"));
+        };
+        let term = Term {
+            section: row.section,
+            serial: serial.value,
+            first: window.first(),
+            end: window.end(),
+            next: row.next,
+        };
+        println!(rt; "  row at {at}: {term}")?;
+        at = at.saturating_add(row.size());
     }
-    Ok(())
+    match reader.step() {
+        Step::Row { .. } => Err(anyhow!("a row behind the last")),
+        Step::Blank { at } => Ok(println!(rt; "  blank from {at} on")?),
+        Step::Spoiled { at } => Ok(println!(rt; "  spoiled tail from {at} on")?),
+    }
 }
 
 // Prints 29 bytes of the table and what they are.

@@ -1,12 +1,11 @@
 use Rattle.std.proofs.Common.{◌≡◌, Some, sym, ap, subst, ◌∙◌, arith, rules}
-use Rattle.std.specs.List.{AllByRecursion}
+use Rattle.std.specs.Int.Digits.{AllBelowBase}
 use Rattle.journal.specs.Left.{rows_left}
 use Rattle.journal.specs.Rows.{stored_bytes}
 use Rattle.journal.proofs.StoredBack.{length_stored}
 use Rattle.log_journal.specs.Kept.{rows_in}
 use Rattle.log_journal.proofs.Sections.{of_section, record_from, record_here, record_is, record_on, row_here}
-use Rattle.log_journal.proofs.Split.{KeySound, rows_keys}
-use Rattle.log_journal.proofs.Walks.{octets, section_within}
+use Rattle.log_journal.proofs.Walks.{section_within}
 use Rattle.log_journal.proofs.walk.record_at.Goals as goal
 
 pub loop-row-init : goal.loop-row-init
@@ -18,7 +17,6 @@ loop-row-init g c =
     let p = c.args.place.position in
     let start : rows_left w c.into_iter-row-iterator.result ≡ rows_in w log = ap (rows_left w) c.into_iter-row-iterator.ensures.into_iter_gives ∙ c.new-row-items.ensures.left in
     record {
-      keys = subst (AllByRecursion (KeySound w)) (sym start) (rows_keys w log (octets log c.type_inv.log));
       bytes = search rules;
       found = ap (λ rs. record_from 0 (of_section d s rs) p) start ∙ record_is (of_section d s (rows_in w log)) p;
     }
@@ -27,8 +25,8 @@ pub returns-then-left-eq0 : goal.returns-then-left-eq0
 returns-then-left-eq0 g c =
     let here = row_here g.K.DecodedKey.decoding c.in-Some.ensures.steps c.if-row-place.false in
     let long = length_stored c.in-Some.row.value.now in
-    let sound = (subst (AllByRecursion (KeySound g.K.Key.WIDTH)) c.in-Some.ensures.steps c.loop-row.invariant.keys).0 in
-    let key : c.decode.result ≡ g.K.DecodedKey.decoding c.in-Some.row.key.now = g.met.K.Key.same _ _ (c.decode.ensures ∙ sym (g.met.K.DecodedKey.decoded c.in-Some.row.key.now sound.0 sound.1)) in
+    let octets : AllBelowBase 256 c.in-Some.row.key.now = subst (AllBelowBase 256) c.decode.ensures (g.met.K.Key.octets c.decode.result) in
+    let key : c.decode.result ≡ g.K.DecodedKey.decoding c.in-Some.row.key.now = g.met.K.Key.same _ _ (c.decode.ensures ∙ sym (g.met.K.DecodedKey.decoded c.in-Some.row.key.now c.in-Some.row.key_wide octets)) in
     (λ i. Some (record { key = key i; next = c.in-Some.row.next; value_offset = c.loop-row.offset; value_size = sym long i }))
     ∙ sym (record_here here long c.loop-row.offset c.loop-row.left c.if-left-eq0.true)
     ∙ c.loop-row.invariant.found
@@ -44,7 +42,6 @@ loop-row-preserved g c =
     let here = row_here g.K.DecodedKey.decoding c.in-Some.ensures.steps c.if-row-place.false in
     let long = length_stored c.in-Some.row.value.now in
     record {
-      keys = (subst (AllByRecursion (KeySound g.K.Key.WIDTH)) c.in-Some.ensures.steps c.loop-row.invariant.keys).1;
       bytes = omega (arith, ap stored_bytes here);
       found = record_on here long c.loop-row.offset c.loop-row.left c.if-left-eq0.false ∙ c.loop-row.invariant.found;
     }
