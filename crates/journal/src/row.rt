@@ -28,6 +28,7 @@ impl<'a, K: Key> RowView<'a, K> {
     }
 }
 
+// By hand, as there is no derive of it beside a ghost field that names a kind.
 impl<'a, K: Key> Clone for RowView<'a, K> {
     ghost is_clone = { λ x y. y ≡ x };
 
