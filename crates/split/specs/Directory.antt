@@ -7,10 +7,6 @@ use Rattle.split.specs.declared.section.Section.{Section}
 abbrev pub entry : ℕ → ℕ → ℕ → ℕ → ℕ → Section
 entry number row byte rows bytes = record { number = number; first_row = row; first_byte = byte; rows = rows; bytes = bytes }
 
--- what stands past the end
-abbrev pub nothing : Section
-nothing = entry 0 0 0 0 0
-
 -- the numbers of the entries
 abbrev pub numbers : List Section → List ℕ
 numbers ds = map (λ d. d.number) ds

@@ -1,9 +1,5 @@
-// Both journals through one script of calls, in memory that just holds its rows, and that just does not.
+// Tests alone: both journals through one script of calls, in memory that just holds its rows, and that just does not.
 #![tactic(auto)]
 
-#[cfg(test)]
-mod common;
-#[cfg(test)]
-mod script;
 #[cfg(test)]
 mod tests;
