@@ -1,13 +1,15 @@
 -- One turn of a reader: the row that it shows is the next good one, and where it shows none there is none.
-use Rattle.std.proofs.Common.{◌≡◌, ℕ, ◌+◌, List, [], ◌∷◌, length, drop, arith}
+use Rattle.std.proofs.Common.{◌≡◌, ℕ, ◌+◌, List, [], ◌∷◌, length, drop, ap, subst, arith}
+use Rattle.std.proofs.lemmas.Iterator.{YieldsList}
+use Rattle.std.proofs.lemmas.Iterator.Consumers.{YieldsList-from_shown}
 use Rattle.std.proofs.lemmas.List.{drop-drop}
 use Rattle.codec.specs.declared.key.Key.{Ghosts}
 use Rattle.journal.specs.declared.reader.LogReader.{LogReader}
 use Rattle.journal.specs.declared.row.RowView.{RowView}
 use Rattle.journal.specs.declared.step.Step.{Step}
 use Rattle.journal.specs.declared.step.Step.TheVariants.{Row}
-use Rattle.journal.specs.Left.{rows_left}
-use Rattle.journal.specs.Log.{row, at_after, last_after, look, row_len, row_shown, shown, stands}
+use Rattle.journal.specs.Left.{GivesRow, rows_left}
+use Rattle.journal.specs.Log.{LogRow, row, at_after, last_after, look, row_len, row_shown, shown, stands}
 use Rattle.journal.proofs.GoodRows.{rows_shown}
 
 look_stands : (w last at : ℕ) (bs : List ℕ) → stands (look w last at bs) ≡ at
@@ -28,3 +30,9 @@ module _ {K : Type 0} {k : Ghosts K} (w : ℕ) (was is : LogReader K) (log : is.
       let first = rows_shown w was.last was.at (drop was.at was.log.now) in
       let stood = look_stands w was.last was.at (drop was.at was.log.now) in
       grind arith
+
+-- a reader gives the rows that it has left, one after the other
+pub rows_come : {K : Type 0} {k : Ghosts K} (w : ℕ) {s : LogReader K} (rows : List LogRow) → rows_left w s ≡ rows → YieldsList (GivesRow {k = k} w) row_shown s rows
+rows_come {k = k} w {s} rows e =
+    subst (YieldsList (GivesRow {k = k} w) row_shown s) e
+    (YieldsList-from_shown (GivesRow {k = k} w) row_shown (rows_left w) (λ s t g. ap length g.rows.0) (λ s v t g. g.rows) s)

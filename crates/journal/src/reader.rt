@@ -54,14 +54,14 @@ impl<'a, K: Key> LogReader<'a, K> {
     }
 }
 
-// The rows, one after the other, up to the first place that shows none.
+// The rows, one after the other, up to the first place that shows none, where the reader stays.
 impl<'a, K: Key> Iterator for LogReader<'a, K> {
-    ghost use Rattle.std.specs.Iterator.{YieldsFirstBy, item_count};
-    ghost use Rattle.journal.specs.Left.{rows_left};
+    ghost use Rattle.std.specs.Iterator.{item_count};
+    ghost use Rattle.journal.specs.Left.{GivesRow, rows_left};
 
     type Item = RowView<'a, K>;
 
-    ghost next_gives = { YieldsFirstBy row_shown (rows_left K.Key.WIDTH) };
+    ghost next_gives = { GivesRow K.Key.WIDTH };
 
     ghost remaining = { item_count (rows_left K.Key.WIDTH) };
 

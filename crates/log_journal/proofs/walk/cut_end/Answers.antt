@@ -11,7 +11,7 @@ use Rattle.log_journal.proofs.walk.cut_end.Goals as goal
 pub overflow_add-end : goal.overflow_add-end
 overflow_add-end g c =
     let v = c.in-Some.row in
-    let more = ap (λ rs. length (log_bytes rs)) (cut_on c.args.section c.loop-row.left c.in-Some-keeps.rest c.in-Some.ensures.steps c.in-Some-keeps.ensures) in
+    let more = ap (λ rs. length (log_bytes rs)) (cut_on c.args.section c.loop-row.left c.in-Some-keeps.rest c.in-Some.ensures.steps.rows c.in-Some-keeps.ensures) in
     let first = length_first (length v.key.now) (row_shown v) (cut section_in c.args.section c.in-Some-keeps.rest (rows_left g.K.Key.WIDTH c.next.new.self)) refl in
     let within = cut_within g.K.Key.WIDTH c.args.section c.args.rows c.args.log.now c.type_inv.log in
     record { fits = omega arith }
@@ -19,6 +19,6 @@ overflow_add-end g c =
 pub loop-row-preserved : goal.loop-row-preserved
 loop-row-preserved g c =
     let v = c.in-Some.row in
-    let more = ap (λ rs. length (log_bytes rs)) (cut_on c.args.section c.loop-row.left c.in-Some-keeps.rest c.in-Some.ensures.steps c.in-Some-keeps.ensures) in
+    let more = ap (λ rs. length (log_bytes rs)) (cut_on c.args.section c.loop-row.left c.in-Some-keeps.rest c.in-Some.ensures.steps.rows c.in-Some-keeps.ensures) in
     let first = length_first (length v.key.now) (row_shown v) (cut section_in c.args.section c.in-Some-keeps.rest (rows_left g.K.Key.WIDTH c.next.new.self)) refl in
     omega arith

@@ -23,7 +23,7 @@ loop-row-init g c =
 
 pub returns-then-left-eq0 : goal.returns-then-left-eq0
 returns-then-left-eq0 g c =
-    let here = row_here g.K.DecodedKey.decoding c.in-Some.ensures.steps c.if-row-place.false in
+    let here = row_here g.K.DecodedKey.decoding c.in-Some.ensures.steps.rows c.if-row-place.false in
     let long = length_stored c.in-Some.row.value.now in
     let octets : AllBelowBase 256 c.in-Some.row.key.now = subst (AllBelowBase 256) c.decode.ensures (g.met.K.Key.octets c.decode.result) in
     let key : c.decode.result ≡ g.K.DecodedKey.decoding c.in-Some.row.key.now = g.met.K.Key.same _ _ (c.decode.ensures ∙ sym (g.met.K.DecodedKey.decoded c.in-Some.row.key.now c.in-Some.row.key_wide octets)) in
@@ -34,12 +34,12 @@ returns-then-left-eq0 g c =
 pub overflow_add-offset : goal.overflow_add-offset
 overflow_add-offset g c =
     let within = section_within g.K.DecodedKey.decoding c.args.place.section g.K.Key.WIDTH c.args.log.now c.type_inv.log in
-    let here = row_here g.K.DecodedKey.decoding c.in-Some.ensures.steps c.if-row-place.false in
+    let here = row_here g.K.DecodedKey.decoding c.in-Some.ensures.steps.rows c.if-row-place.false in
     record { fits = omega (arith, ap stored_bytes here, length_stored c.in-Some.row.value.now) }
 
 pub loop-row-preserved : goal.loop-row-preserved
 loop-row-preserved g c =
-    let here = row_here g.K.DecodedKey.decoding c.in-Some.ensures.steps c.if-row-place.false in
+    let here = row_here g.K.DecodedKey.decoding c.in-Some.ensures.steps.rows c.if-row-place.false in
     let long = length_stored c.in-Some.row.value.now in
     record {
       bytes = omega (arith, ap stored_bytes here);
