@@ -40,3 +40,9 @@ impl<'a, K: Key> Clone for RowView<'a, K> {
 }
 
 impl<'a, K: Key> Copy for RowView<'a, K> {}
+
+// It holds parts of a log and no key, so it may go to another thread whatever its kind of keys. These are marks for the
+// type checker: each move to a thread is still proved.
+unsafe impl<'a, K: Key> Send for RowView<'a, K> {}
+
+unsafe impl<'a, K: Key> Sync for RowView<'a, K> {}

@@ -22,6 +22,24 @@ fn first_step(log: &[u8]) -> Step<RowView<'_, Serial>> {
     reader.step()
 }
 
+// What may go to another thread, and be read there, handed back.
+fn across<T: Send + Sync + Drop>(thing: T) -> T {
+    thing
+}
+
+// A step may, whatever the kind of keys.
+fn step_across<'a, K: Key>(reader: &mut LogReader<'a, K>) -> Step<RowView<'a, K>> {
+    across(reader.step())
+}
+
+#[test]
+fn crosses(rt: HostRuntime) {
+    let log = one_row();
+    let mut reader = LogReader::<Serial>::new(&log);
+    assert!(rt; matches!(step_across(&mut reader), Step::Row { at: 0, .. }));
+    assert!(rt; matches!(step_across(&mut reader), Step::Blank { at: 58 }));
+}
+
 // Which of section, key, next section, next position and value differ from the row's own; none where no row is shown.
 fn differs(log: &[u8]) -> Option<[bool; 5]> {
     let own = one_row();
