@@ -60,6 +60,25 @@ under_of (b ∷ bs) h = (h 0, under_of bs (λ i. h (suc i)))
 pub be_back : (k : ℕ) (bs : List ℕ) → length bs ≡ k → AllBelowBase 256 bs → be k (number bs) ≡ bs
 be_back k bs l u = subst (λ m. be m (number bs) ≡ bs) l (be-number bs u)
 
+-- the number, digit by digit as `from_be_bytes` sums them: k digits from index i on
+abbrev pub digits : ℕ → ℕ → List ℕ → ℕ
+digits i zero bs = 0
+digits i (suc k) bs = slice_index bs i * 256 ^ k + digits (suc i) k bs
+
+digits_behind : (i k b : ℕ) (bs : List ℕ) → digits (suc i) k (b ∷ bs) ≡ digits i k bs
+digits_behind i zero b bs = refl
+digits_behind i (suc k) b bs = ap (λ n. slice_index bs i * 256 ^ k + n) (digits_behind (suc i) k b bs)
+
+pub digits_number : (bs : List ℕ) → digits 0 (length bs) bs ≡ number bs
+digits_number [] = refl
+digits_number (b ∷ bs) = ap (λ n. b * 256 ^ length bs + n) (digits_behind 0 (length bs) b bs ∙ digits_number bs)
+
+-- what a reading of k bytes answers: their number, which they write again
+pub taken : (k n : ℕ) (bs : List ℕ) → length bs ≡ k → ((i : ℕ) → slice_index bs i < 256) → n ≡ digits 0 k bs → (n ≡ number bs) × (be k n ≡ bs)
+taken k n bs l h e =
+    let value : n ≡ number bs = e ∙ ap (λ m. digits 0 m bs) (sym l) ∙ digits_number bs in
+    (value, ap (be k) value ∙ be_back k bs l (under_of bs h))
+
 -- ---- lists of bytes
 
 pub under_be : (k n : ℕ) → AllBelowBase 256 (be k n)

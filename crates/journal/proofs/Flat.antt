@@ -1,9 +1,9 @@
 -- What each change makes of a journal whose rows stand one after the other.
-use Rattle.std.proofs.Common.{◌≡◌, ℕ, zero, suc, ◌-◌, ◌/◌, ◌<◌, ◌≤◌, min, max, Bool, true, false, cond, ◌&&◌, eqb, ltb, ◌⊎◌, List, [], ◌∷◌, ◌++◌, length, take, None, sym, refl, ap, ◌∙◌, subst, inl, inr, ⊎_elim, arith}
+use Rattle.std.proofs.Common.{◌≡◌, ℕ, zero, suc, ◌-◌, ◌/◌, ◌<◌, ◌≤◌, min, max, Bool, true, false, cond, ◌&&◌, eqb, ltb, leb, ◌⊎◌, List, [], ◌∷◌, ◌++◌, length, take, None, sym, refl, ap, ◌∙◌, subst, inl, inr, ⊎_elim, arith}
 use mathlib.Core.Path.{fun_ext}
 use Rattle.std.proofs.lemmas.Bool.{eq-eqb, ne_eqb, eqb-true, eqb-false, lt-ltb, le-ltb, ltb-true, ltb-false, and_parts, and_cases, cond-true, cond-false, cond_both, cases_eq, cases_order}
 use Rattle.std.proofs.lemmas.List.{append-nil}
-use Rattle.journal.specs.Rows.{Row, append, restore, appended, kept, none_there, trimmed, apply, later_than, stored_of}
+use Rattle.journal.specs.Rows.{Row, append, sync, restore, clear, appended, kept, none_there, trimmed, apply, later_than, stored_of}
 use Rattle.journal.specs.Flat.{rows_of, sections_from, flat_means, Ordered, cut}
 
 -- ---- what a restore keeps
@@ -51,6 +51,10 @@ module _ {B : Type 0} where
   length_by : (b : Bool) (u w : List B) → length (cond b u w) ≡ cond b (length (cond b u w)) (length w)
   length_by true u w = refl
   length_by false u w = refl
+
+  length_same : (b : Bool) (w : List B) → length w ≡ cond b (length w) (length w)
+  length_same true w = refl
+  length_same false w = refl
 
   take_none : (n : ℕ) → take {A = B} n [] ≡ []
   take_none zero = refl
@@ -113,6 +117,15 @@ module _ {A K : Type 0} (section : A → ℕ) (row : A → Row K) where
 
   -- ---- a row more
 
+  pub ordered_append : (low n : ℕ) (xs : List A) (x : A) → Ordered section low xs → low ≤ section x → sections_from section row n xs ≤ suc (section x) → Ordered section low (xs ++ (x ∷ []))
+  ordered_append low n [] x o l h = (l, tt)
+  ordered_append low n (y ∷ ys) x o l h =
+      let i = sections_least (section y) (suc (section y)) ys o.1 (omega arith) in
+      (o.0, ordered_append (section y) (suc (section y)) ys x o.1 (omega arith) h)
+
+  pub ordered_more : (xs : List A) (x : A) → Ordered section 0 xs → later_than (section x) (flat_means section row xs) ≡ false → Ordered section 0 (xs ++ (x ∷ []))
+  ordered_more xs x o l = ordered_append 0 0 xs x o (omega arith) (ltb-false (suc (section x)) (sections_from section row 0 xs) l)
+
   one_more : (s : ℕ) (r : Row K) (xs : List A) (x : A) → section x ≡ s → row x ≡ r → (i : ℕ) → rows_of section row i (xs ++ (x ∷ [])) ≡ appended s r (λ j. rows_of section row j xs) i
   one_more s r xs x e q i =
       rows_append i xs (x ∷ [])
@@ -136,6 +149,18 @@ module _ {A K : Type 0} (section : A → ℕ) (row : A → Row K) where
         eager = true;
         asked = None;
       }
+
+  pub flat_sync : (size a b : ℕ) (xs : List A) → flat_means section row xs ≡ apply size (flat_means section row xs) (sync a b)
+  flat_sync size a b xs = λ p. record {
+    rows = λ i. rows_of section row i xs;
+    durable = λ i. length_same (leb a i && leb i b) (rows_of section row i xs) p;
+    sections = sections_from section row 0 xs;
+    eager = true;
+    asked = None;
+  }
+
+  pub flat_clear : (size : ℕ) (xs : List A) → flat_means section row [] ≡ apply size (flat_means section row xs) clear
+  flat_clear size xs = refl
 
   -- ---- a cut
 

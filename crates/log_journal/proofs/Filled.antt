@@ -36,7 +36,7 @@ module _ {K : Type 0} (decoding : List ℕ → K) (w : ℕ) (r : LogRow) (ok : W
 -- ---- rows and zeros
 
 -- rows that were written are the good rows
-rows_written : (w last n : ℕ) (rs : List LogRow) → Rising w last rs → rows_from w last (log_bytes rs ++ replicate n 0) ≡ rs
+pub rows_written : (w last n : ℕ) (rs : List LogRow) → Rising w last rs → rows_from w last (log_bytes rs ++ replicate n 0) ≡ rs
 rows_written w last n [] h = rows_shown w last 0 (replicate n 0) ∙ ap (shown_rows w (replicate n 0)) (look_zeros w last 0 n)
 rows_written w last n (r ∷ rs) h =
     let behind : List ℕ = log_bytes rs ++ replicate n 0 in
