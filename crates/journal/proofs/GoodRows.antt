@@ -1,5 +1,6 @@
 -- The good rows at the front of bytes, one by one.
 use Rattle.std.proofs.Common.{◌≡◌, ℕ, zero, suc, ◌≤◌, true, false, cond, List, [], ◌∷◌, length, drop, refl, ap, arith, length-drop}
+use Rattle.std.proofs.Math.Seq.{drop-length}
 use Rattle.std.proofs.lemmas.Bool.Decides.{nat_tests}
 use Rattle.journal.specs.Log.{LogRow, Shown, row, blank, spoiled, is_blank, is_row, log_rows, look, row_of, row_len, rows_from, section_of, value_of}
 
@@ -41,3 +42,8 @@ rows_shown w last at bs =
     let first = unfold_rows w last bs in
     let none = blank_no_row w last bs in
     grind arith
+
+-- behind all bytes there are none
+pub no_bytes : (w last : ℕ) (bs : List ℕ) → rows_from w last (drop (length bs) bs) ≡ []
+unfolding log_rows
+no_bytes w last bs = ap (rows_from w last) (drop-length bs)

@@ -4,7 +4,6 @@ use Rattle.std.specs.List.{between}
 use Rattle.std.specs.Int.Digits.{AllBelowBase}
 use Rattle.crc32c.specs.Crc.{crc}
 use Rattle.codec.specs.Bytes.{be, number}
-use Rattle.codec.specs.declared.key.Key.{Ghosts}
 use Rattle.journal.specs.declared.row.RowView.{RowView}
 use Rattle.journal.specs.declared.step.Step.{Step}
 use Rattle.journal.specs.declared.step.Step.TheVariants.{Row, Blank, Spoiled}
@@ -90,11 +89,11 @@ pub data Shown : Type 0 where
   spoiled : (at : ℕ) → Shown
 
 -- the row of a view
-abbrev pub row_shown : {K : Type 0} {k : Ghosts K} → RowView K k → LogRow
+abbrev pub row_shown : RowView → LogRow
 row_shown v = log_row v.section v.key.now v.next.section v.next.position v.value.now
 
 -- what each answer carries
-abbrev pub shown : {K : Type 0} {k : Ghosts K} → Step (RowView K k) → Shown
+abbrev pub shown : Step → Shown
 shown (Row at v) = row at (row_shown v)
 shown (Blank at) = blank at
 shown (Spoiled at) = spoiled at

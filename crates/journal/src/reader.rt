@@ -38,14 +38,14 @@ impl<'a, K: Key> LogReader<'a, K> {
         }
     }
 
-    pub fn step(&mut self) -> Step<RowView<'a, K>>
+    pub fn step(&mut self) -> Step<'a>
         ensures shown { shown result ≡ look K.Key.WIDTH self.old.last self.old.at (drop self.old.at self.old.log.now) }
         ensures key { KeyWide K.Key.WIDTH (shown result) }
         ensures at { self.new.at ≡ at_after K.Key.WIDTH (shown result) }
         ensures last { self.new.last ≡ last_after self.old.last (shown result) }
         ensures log { self.new.log.now ≡ self.old.log.now }
     {
-        let step = look::<K>(&self.log[self.at..], self.last, self.at);
+        let step = look(&self.log[self.at..], K::WIDTH, self.last, self.at);
         if let Step::Row { row, .. } = &step {
             self.at += row.size();
             self.last = row.section;
@@ -59,13 +59,13 @@ impl<'a, K: Key> Iterator for LogReader<'a, K> {
     ghost use Rattle.std.specs.Iterator.{item_count};
     ghost use Rattle.journal.specs.Left.{GivesRow, rows_left};
 
-    type Item = RowView<'a, K>;
+    type Item = RowView<'a>;
 
     ghost next_gives = { GivesRow K.Key.WIDTH };
 
     ghost remaining = { item_count (rows_left K.Key.WIDTH) };
 
-    fn next(&mut self) -> Option<RowView<'a, K>> {
+    fn next(&mut self) -> Option<RowView<'a>> {
         match self.step() {
             Step::Row { row, .. } => Some(row),
             _ => None,
@@ -74,26 +74,29 @@ impl<'a, K: Key> Iterator for LogReader<'a, K> {
 }
 
 // Reads the front of `rest`, which stands at `at`.
-fn look<'a, K: Key>(rest: &'a [u8], last: u64, at: usize) -> Step<RowView<'a, K>>
-    ensures shown { shown result ≡ look K.Key.WIDTH last at rest.now }
+fn look<'a>(rest: &'a [u8], width: usize, last: u64, at: usize) -> Step<'a>
+    requires { width ≤ 64 }
+    ensures shown { shown result ≡ look width last at rest.now }
+    ensures key { KeyWide width (shown result) }
     ensures stands { stands (shown result) ≡ at }
-    ensures within { at_after K.Key.WIDTH (shown result) ≤ at + length rest.now }
+    ensures within { at_after width (shown result) ≤ at + length rest.now }
 {
     if rest.len() < 2 || rest[0] == 0 && rest[1] == 0 {
         return Step::Blank { at };
     }
-    match good_row(rest, last) {
+    match good_row(rest, width, last) {
         Some(row) => Step::Row { at, row },
         None => Step::Spoiled { at },
     }
 }
 
 // The good row that `rest` begins with, if it does.
-fn good_row<'a, K: Key>(rest: &'a [u8], last: u64) -> Option<RowView<'a, K>>
-    ensures row { option_map row_shown result ≡ cond (is_row K.Key.WIDTH last rest.now) (Some (row_of K.Key.WIDTH rest.now)) None }
-    ensures within { IfSome result (λ v. row_len K.Key.WIDTH (length v.value.now) ≤ length rest.now) }
+fn good_row<'a>(rest: &'a [u8], width: usize, last: u64) -> Option<RowView<'a>>
+    requires { width ≤ 64 }
+    ensures row { option_map row_shown result ≡ cond (is_row width last rest.now) (Some (row_of width rest.now)) None }
+    ensures key { IfSome result (λ v. length v.key.now ≡ width) }
+    ensures within { IfSome result (λ v. row_len width (length v.value.now) ≤ length rest.now) }
 {
-    let width = K::WIDTH;
     if rest.len() < 34 + width || rest[0] != 0x46 || rest[1] != 0x5a {
         return None;
     }
@@ -115,6 +118,5 @@ fn good_row<'a, K: Key>(rest: &'a [u8], last: u64) -> Option<RowView<'a, K>>
             position: u64::take(&rest[18 + width..26 + width]),
         },
         value,
-        kind: PhantomData,
     })
 }

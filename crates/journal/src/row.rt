@@ -1,23 +1,19 @@
-// A row of a kind of keys as it stands in a log. Key and value are parts of the log: of its kind's width the one, of at
-// most 4,096 bytes the other.
-ghost use Rattle.std.specs.Prelude.{◌≡◌, ◌≤◌, ⊤, length};
+// A row as it stands in a log. Key and value are parts of the log: of at most 64 bytes the one, of at most 4,096 the other.
+ghost use Rattle.std.specs.Prelude.{◌≡◌, ◌≤◌, length};
 
 use crate::place::Place;
-use codec::Key;
-use std::alloc::AllocError;
-use std::marker::PhantomData;
 
-pub struct RowView<'a, K: Key> {
+#[derive(Clone, Copy)]
+pub struct RowView<'a> {
     pub section: u64,
     pub key: &'a [u8],
     pub next: Place,
     pub value: &'a [u8],
-    pub kind: PhantomData<K>,
-    pub ghost key_wide: { length key.now ≡ K.Key.WIDTH },
+    pub ghost key_most: { length key.now ≤ 64 },
     pub ghost value_most: { length value.now ≤ 4096 },
 }
 
-impl<'a, K: Key> RowView<'a, K> {
+impl<'a> RowView<'a> {
     ghost use Rattle.journal.specs.Log.{row_len};
 
     // How many bytes the row takes.
@@ -27,22 +23,3 @@ impl<'a, K: Key> RowView<'a, K> {
         34 + self.key.len() + self.value.len()
     }
 }
-
-// By hand, as there is no derive of it beside a ghost field that names a kind.
-impl<'a, K: Key> Clone for RowView<'a, K> {
-    ghost is_clone = { λ x y. y ≡ x };
-
-    ghost is_infallible = { λ _. ⊤ };
-
-    fn clone(&self) -> Result<Self, AllocError> {
-        Ok(*self)
-    }
-}
-
-impl<'a, K: Key> Copy for RowView<'a, K> {}
-
-// It holds parts of a log and no key, so it may go to another thread whatever its kind of keys. These are marks for the
-// type checker: each move to a thread is still proved.
-unsafe impl<'a, K: Key> Send for RowView<'a, K> {}
-
-unsafe impl<'a, K: Key> Sync for RowView<'a, K> {}

@@ -1,9 +1,10 @@
 // What one step of a reader shows, and where it stands.
-// Not an Option: a blank and a spoiled tail are told apart. The rows alone are `LogReader` as an iterator. `R` is the
-// row's type, a `RowView`.
+use crate::row::RowView;
+
+// Not an Option: a blank and a spoiled tail are told apart. The rows alone are `LogReader` as an iterator.
 #[derive(Clone, Copy)]
-pub enum Step<R> {
-    Row { at: usize, row: R },
+pub enum Step<'a> {
+    Row { at: usize, row: RowView<'a> },
     // Fewer than two bytes are left, or two zero bytes stand here.
     Blank { at: usize },
     // Another mark, a short row, a falling section, a value above 4,096 bytes or a wrong check.

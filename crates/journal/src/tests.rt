@@ -17,7 +17,7 @@ fn one_row() -> [u8; 58] {
     log
 }
 
-fn first_step(log: &[u8]) -> Step<RowView<'_, Serial>> {
+fn first_step(log: &[u8]) -> Step<'_> {
     let mut reader = LogReader::<Serial>::new(log);
     reader.step()
 }
@@ -28,7 +28,7 @@ fn across<T: Send + Sync + Drop>(thing: T) -> T {
 }
 
 // A step may, whatever the kind of keys.
-fn step_across<'a, K: Key>(reader: &mut LogReader<'a, K>) -> Step<RowView<'a, K>> {
+fn step_across<'a, K: Key>(reader: &mut LogReader<'a, K>) -> Step<'a> {
     across(reader.step())
 }
 

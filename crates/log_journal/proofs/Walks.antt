@@ -6,7 +6,6 @@ use Rattle.std.specs.Int.Digits.{AllBelowBase}
 use Rattle.std.proofs.lemmas.Bool.{cond_both}
 use Rattle.std.proofs.lemmas.List.Recursion.{is_sum_by}
 use Rattle.codec.specs.Rounds.{under_of}
-use Rattle.codec.specs.declared.key.Key.{Ghosts}
 use Rattle.journal.specs.declared.row.RowView.{RowView}
 use Rattle.journal.specs.Flat.{cut, sections_from}
 use Rattle.journal.specs.Log.{LogRow, Rising, log_bytes, row_len, row_shown}
@@ -34,10 +33,10 @@ pub end_within : (w : ℕ) (bs : List ℕ) → ((i : ℕ) → Fits w8 (get_or bs
 end_within w bs u = let f = ap length (rows_front w bs (octets bs u) (log_end w bs) refl) in omega (arith, length-append (log_bytes (rows_in w bs)) (drop (log_end w bs) bs))
 
 -- the section of the last row
-abbrev seen : {K : Type 0} {k : Ghosts K} → Option (RowView K k) → Option ℕ
+abbrev seen : Option RowView → Option ℕ
 seen o = option_map (λ v. v.section) o
 
-pub last_seen : {K : Type 0} {k : Ghosts K} (decoding : List ℕ → K) (o : Option (RowView K k)) (xs : List (RowView K k)) → above (seen (last_or o xs)) ≡ sections_from section_in (kept_row decoding) (above (seen o)) (map row_shown xs)
+pub last_seen : {K : Type 0} (decoding : List ℕ → K) (o : Option RowView) (xs : List RowView) → above (seen (last_or o xs)) ≡ sections_from section_in (kept_row decoding) (above (seen o)) (map row_shown xs)
 last_seen decoding o [] = refl
 last_seen decoding o (x ∷ xs) = last_seen decoding (Some x) xs
 

@@ -26,7 +26,7 @@ returns-then-left-eq0 g c =
     let here = row_here g.K.DecodedKey.decoding c.in-Some.ensures.steps.rows c.if-row-place.false in
     let long = length_stored c.in-Some.row.value.now in
     let octets : AllBelowBase 256 c.in-Some.row.key.now = subst (AllBelowBase 256) c.decode.ensures (g.met.K.Key.octets c.decode.result) in
-    let key : c.decode.result ≡ g.K.DecodedKey.decoding c.in-Some.row.key.now = g.met.K.Key.same _ _ (c.decode.ensures ∙ sym (g.met.K.DecodedKey.decoded c.in-Some.row.key.now c.in-Some.row.key_wide octets)) in
+    let key : c.decode.result ≡ g.K.DecodedKey.decoding c.in-Some.row.key.now = g.met.K.Key.same _ _ (c.decode.ensures ∙ sym (g.met.K.DecodedKey.decoded c.in-Some.row.key.now c.in-Some.ensures.steps.key octets)) in
     (λ i. Some (record { key = key i; next = c.in-Some.row.next; value_offset = c.loop-row.offset; value_size = sym long i }))
     ∙ sym (record_here here long c.loop-row.offset c.loop-row.left c.if-left-eq0.true)
     ∙ c.loop-row.invariant.found
