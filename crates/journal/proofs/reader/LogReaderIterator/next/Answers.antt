@@ -15,6 +15,7 @@ returns-in-Row g c =
       goes = record { on = λ _. (tt, tt, omega (arith, ap length turn)); keeps = tt; rests = λ _. tt };
     }
 
+-- `no_bytes` lets `rows` hold also of a reader that was moved to the end, so that only `at` refuses such a body
 pub returns-in_default : goal.returns-in_default
 returns-in_default g c =
     let w = g.K.Key.WIDTH in
